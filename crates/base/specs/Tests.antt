@@ -1,0 +1,9 @@
+-- Choices and tests that code makes. Assumes nothing.
+use mathlib.Core.Bool.{Bool, true, false}
+use mathlib.Core.List.{List, [], _∷_}
+use Prim.Native.Nat.{ℕ, zero, suc}
+
+-- a where the test holds, and b where it does not; shut, so that a definition with many choices stays as written
+unfoldable pub pick {ℓ} : {A : Type ℓ} → Bool → A → A → A
+pick true a b = a
+pick false a b = b

@@ -1,0 +1,70 @@
+// Bytes and big-endian 64-bit words in a slice. Reads and writes are total: outside the slice a read gives 0 and a write does nothing.
+ghost use mathlib.Core.Path.{_≡_};
+ghost use Prim.Native.Nat.{_+_, _*_, _≤_, _<_};
+ghost use lib.ListN.{length, getD, set};
+ghost use Rattle.words.specs.Word.{wordAt, withPair, withHalf, withWord, word, setWord};
+
+// Words are composed at 64 bits, so that the eight loads become one load and a byte swap.
+fn first(b: u8) -> u64
+    ensures { λ r. ⌜ (r ≡ b) × (r < 256) ⌝ }
+{
+    b as u64
+}
+
+fn next(hi: u64, b: u8) -> u64
+    requires { ⌜ hi < 72057594037927936 ⌝ }
+    ensures { λ r. ⌜ (r ≡ hi * 256 + b) × (r < hi * 256 + 256) ⌝ }
+{
+    hi * 256 + b as u64
+}
+
+fn get64(s: &[u8], at: usize) -> u64
+    requires { ⌜ at + 8 ≤ length (now s) ⌝ }
+    ensures { λ r. ⌜ r ≡ wordAt (now (s .entry)) at ⌝ }
+{
+    let four = next(next(next(first(s[at]), s[at + 1]), s[at + 2]), s[at + 3]);
+    next(
+        next(next(next(four, s[at + 4]), s[at + 5]), s[at + 6]),
+        s[at + 7],
+    )
+}
+
+fn put16(s: &mut [u8], at: usize, v: u16)
+    requires { ⌜ at + 2 ≤ length (now s) ⌝ }
+    ensures { λ _. ⌜ now (s .exit) ≡ withPair (now (s .entry)) at v ⌝ }
+{
+    s[at] = (v / 256) as u8;
+    s[at + 1] = (v % 256) as u8;
+}
+
+fn put32(s: &mut [u8], at: usize, v: u32)
+    requires { ⌜ at + 4 ≤ length (now s) ⌝ }
+    ensures { λ _. ⌜ now (s .exit) ≡ withHalf (now (s .entry)) at v ⌝ }
+{
+    put16(s, at, (v / 65536) as u16);
+    put16(s, at + 2, (v % 65536) as u16);
+}
+
+fn put64(s: &mut [u8], at: usize, v: u64)
+    requires { ⌜ at + 8 ≤ length (now s) ⌝ }
+    ensures { λ _. ⌜ now (s .exit) ≡ withWord (now (s .entry)) at v ⌝ }
+{
+    put32(s, at, (v / 4294967296) as u32);
+    put32(s, at + 4, (v % 4294967296) as u32);
+}
+
+// Word k of s, which holds bytes 8k to 8k + 7; 0 past the last whole word.
+pub fn get_word(s: &[u8], k: usize) -> u64
+    ensures { λ r. ⌜ r ≡ word (now (s .entry)) k ⌝ }
+{
+    if k < s.len() / 8 { get64(s, 8 * k) } else { 0 }
+}
+
+// Sets word k of s; past the last whole word it does nothing.
+pub fn put_word(s: &mut [u8], k: usize, v: u64)
+    ensures { λ _. ⌜ now (s .exit) ≡ setWord (now (s .entry)) k v ⌝ }
+{
+    if k < s.len() / 8 {
+        put64(s, 8 * k, v);
+    }
+}
