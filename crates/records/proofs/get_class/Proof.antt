@@ -1,0 +1,34 @@
+use Rattle.records.specs.Class.{classAt}
+use borrow.Author.Needs.{needs}
+use Rattle.records.proofs.get_class.Statement.{statement}
+use Rattle.records.proofs.get_class.Tie as tie
+
+class-word-requires : tie.Need-class-word-requires
+class-word-requires c κs = search needs
+
+get-word-requires : tie.Need-get-word-requires
+get-word-requires c κs = search needs
+
+add-get-word : tie.Need-add-get-word
+add-get-word c = search needs
+
+get-word-requires-2 : tie.Need-get-word-requires-2
+get-word-requires-2 c κs = search needs
+
+unpack-class-requires : tie.Need-unpack-class-requires
+unpack-class-requires c κs = search needs
+
+returns : tie.Need-returns
+unfolding classAt
+returns c = cc
+
+pub get-class-spec : {M : Type 1} → statement M
+get-class-spec =
+    tie.close
+    (tie.spec
+    class-word-requires
+    get-word-requires
+    add-get-word
+    get-word-requires-2
+    unpack-class-requires
+    returns)

@@ -1,0 +1,42 @@
+use Rattle.records.specs.Class.{withClass}
+use borrow.Author.Needs.{needs}
+use Rattle.records.proofs.put_class.Statement.{statement}
+use Rattle.records.proofs.put_class.Tie as tie
+
+class-word-requires : tie.Need-class-word-requires
+class-word-requires c κs = search needs
+
+pack-counts-requires : tie.Need-pack-counts-requires
+pack-counts-requires c κs = search needs
+
+put-word-requires : tie.Need-put-word-requires
+put-word-requires c κs = search needs
+
+add-put-word : tie.Need-add-put-word
+add-put-word c = search needs
+
+pack-tally-requires : tie.Need-pack-tally-requires
+pack-tally-requires c κs = search needs
+
+put-word-requires-2 : tie.Need-put-word-requires-2
+put-word-requires-2 c κs = search needs
+
+same-length : tie.Need-same-length
+same-length c = search needs
+
+returns : tie.Need-returns
+unfolding withClass
+returns c = cc
+
+pub put-class-spec : {M : Type 1} → statement M
+put-class-spec =
+    tie.close
+    (tie.spec
+    class-word-requires
+    pack-counts-requires
+    put-word-requires
+    add-put-word
+    pack-tally-requires
+    put-word-requires-2
+    same-length
+    returns)
