@@ -1,1 +1,8 @@
+pub mod Cases
 pub mod Tests
+pub mod Functions
+pub mod Search
+pub mod Count
+pub mod Lists
+pub mod Neighbours
+pub mod Links

@@ -12,7 +12,7 @@ abbrev pub countsPlace : ℕ → ℕ → ℕ
 countsPlace w c = 1 + w * c
 
 abbrev pub tallyPlace : ℕ → ℕ → ℕ
-tallyPlace w c = countsPlace w c + 1
+tallyPlace w c = 2 + w * c
 
 abbrev pub mapPlace : ℕ → ℕ → ℕ
 mapPlace w p = 1 + 9 * w + 2 * p

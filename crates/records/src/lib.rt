@@ -1,8 +1,8 @@
 // Header, class records and page records by value, packed into 64-bit words by multiplication and unpacked by division and remainder.
 // `w` is the number of words of a class record: 2 in edition 1.
 ghost use mathlib.Core.Path.{_≡_};
-ghost use Prim.Native.Nat.{_≤_};
-ghost use Rattle.records.specs.Layout.{countsPlace, linksPlace};
+ghost use Prim.Native.Nat.{_+_, _*_};
+ghost use Rattle.records.specs.Layout.{linksPlace};
 ghost use Rattle.records.specs.Header.{packHeader, unpackHeader, headerAt, withHeader};
 ghost use Rattle.records.specs.Class.{packCounts, packTally, unpackClass, classAt, withClass};
 ghost use Rattle.records.specs.Page.{packLinks, unpackLinks, linksAt, withLinks};
@@ -102,26 +102,27 @@ fn unpack_class(counts: u64, tally: u64) -> ClassRecord
     }
 }
 
-// The word with which the record of class c begins.
-fn class_word(w: u8, c: u8) -> usize
-    ensures { λ r. ⌜ (r ≡ countsPlace w c) × (r ≤ 65026) ⌝ }
+// The i-th of the words that stand `step` apart from `from` on.
+pub fn place(from: u16, step: u8, i: u16) -> usize
+    ensures { λ r. ⌜ r ≡ from + step * i ⌝ }
 {
-    1 + w as usize * c as usize
+    from as usize + step as usize * i as usize
 }
 
 pub fn get_class(pool: &[u8], w: u8, c: u8) -> ClassRecord
     ensures { λ r. ⌜ r ≡ classAt w (now (pool .entry)) c ⌝ }
 {
-    let k = class_word(w, c);
-    unpack_class(words::get_word(pool, k), words::get_word(pool, k + 1))
+    unpack_class(
+        words::get_word(pool, place(1, w, c as u16)),
+        words::get_word(pool, place(2, w, c as u16)),
+    )
 }
 
 pub fn put_class(pool: &mut [u8], w: u8, c: u8, r: ClassRecord)
     ensures { λ _. ⌜ now (pool .exit) ≡ withClass w (now (pool .entry)) c r ⌝ }
 {
-    let k = class_word(w, c);
-    words::put_word(pool, k, pack_counts(r));
-    words::put_word(pool, k + 1, pack_tally(r));
+    words::put_word(pool, place(1, w, c as u16), pack_counts(r));
+    words::put_word(pool, place(2, w, c as u16), pack_tally(r));
 }
 
 pub fn pack_links(l: Links) -> u64
@@ -150,7 +151,7 @@ pub fn unpack_links(v: u64) -> Links
 fn links_word(w: u8, p: PageNumber) -> usize
     ensures { λ r. ⌜ r ≡ linksPlace w (p .0) ⌝ }
 {
-    2 + 9 * w as usize + 2 * p.0 as usize
+    place(2 + 9 * w as u16, 2, p.0)
 }
 
 pub fn get_links(pool: &[u8], w: u8, p: PageNumber) -> Links

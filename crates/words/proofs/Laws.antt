@@ -9,8 +9,8 @@ use lib.ListN.{getD, length}
 use lib.Dec.{lit<, ltb}
 use borrow.Author.Tests.{lt-ltb, le-ltb, ltb-true, ltb-false}
 use Rattle.base.specs.Tests.{pick}
-use Rattle.words.specs.Word.{pairAt, halfAt, wordAt, withPair, withHalf, withWord, word, setWord}
-use Rattle.words.proofs.Cell.{Cell, Bytes, Off, one, double, other}
+use Rattle.words.specs.Word.{Bytes, pairAt, halfAt, wordAt, withPair, withHalf, withWord, word, setWord}
+use Rattle.words.proofs.Cell.{Cell, Off, one, double, other}
 
 pub pairs : Cell 2 65536 pairAt withPair
 pairs = double one (lit< tt)

@@ -1,3 +1,4 @@
 pub mod Cell
 pub mod Laws
 pub mod Chain
+pub mod Stores

@@ -1,9 +1,13 @@
 -- Big-endian numbers in a list of bytes.
-use Prim.Native.Nat.{ℕ, _+_, _*_, _/_, _%_}
+use Prim.Native.Nat.{ℕ, _<_, _+_, _*_, _/_, _%_}
 use mathlib.Core.List.{List}
 use lib.ListN.{getD, set, length}
 use lib.Dec.{ltb}
 use Rattle.base.specs.Tests.{pick}
+
+-- each element is a byte
+abbrev pub Bytes : List ℕ → Type 0
+Bytes s = (i : ℕ) → getD s i 0 < 256
 
 -- the two, four and eight bytes from a place on, most significant first
 abbrev pub pairAt : List ℕ → ℕ → ℕ

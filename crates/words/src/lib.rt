@@ -68,3 +68,19 @@ pub fn put_word(s: &mut [u8], k: usize, v: u64)
         put64(s, 8 * k, v);
     }
 }
+
+// The byte at a place; 0 outside.
+pub fn get_byte(s: &[u8], at: usize) -> u8
+    ensures { λ r. ⌜ r ≡ getD (now (s .entry)) at 0 ⌝ }
+{
+    if at < s.len() { s[at] } else { 0 }
+}
+
+// Sets the byte at a place; outside it does nothing.
+pub fn put_byte(s: &mut [u8], at: usize, v: u8)
+    ensures { λ _. ⌜ now (s .exit) ≡ set (now (s .entry)) at v ⌝ }
+{
+    if at < s.len() {
+        s[at] = v;
+    }
+}

@@ -3,14 +3,14 @@ use borrow.Author.Needs.{needs}
 use Rattle.records.proofs.get_class.Statement.{statement}
 use Rattle.records.proofs.get_class.Tie as tie
 
-class-word-requires : tie.Need-class-word-requires
-class-word-requires c κs = search needs
+place-requires : tie.Need-place-requires
+place-requires c κs = search needs
 
 get-word-requires : tie.Need-get-word-requires
 get-word-requires c κs = search needs
 
-add-get-word : tie.Need-add-get-word
-add-get-word c = search needs
+place-requires-2 : tie.Need-place-requires-2
+place-requires-2 c κs = search needs
 
 get-word-requires-2 : tie.Need-get-word-requires-2
 get-word-requires-2 c κs = search needs
@@ -26,9 +26,9 @@ pub get-class-spec : {M : Type 1} → statement M
 get-class-spec =
     tie.close
     (tie.spec
-    class-word-requires
+    place-requires
     get-word-requires
-    add-get-word
+    place-requires-2
     get-word-requires-2
     unpack-class-requires
     returns)

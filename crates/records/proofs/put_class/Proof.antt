@@ -3,8 +3,8 @@ use borrow.Author.Needs.{needs}
 use Rattle.records.proofs.put_class.Statement.{statement}
 use Rattle.records.proofs.put_class.Tie as tie
 
-class-word-requires : tie.Need-class-word-requires
-class-word-requires c κs = search needs
+place-requires : tie.Need-place-requires
+place-requires c κs = search needs
 
 pack-counts-requires : tie.Need-pack-counts-requires
 pack-counts-requires c κs = search needs
@@ -12,8 +12,8 @@ pack-counts-requires c κs = search needs
 put-word-requires : tie.Need-put-word-requires
 put-word-requires c κs = search needs
 
-add-put-word : tie.Need-add-put-word
-add-put-word c = search needs
+place-requires-2 : tie.Need-place-requires-2
+place-requires-2 c κs = search needs
 
 pack-tally-requires : tie.Need-pack-tally-requires
 pack-tally-requires c κs = search needs
@@ -32,10 +32,10 @@ pub put-class-spec : {M : Type 1} → statement M
 put-class-spec =
     tie.close
     (tie.spec
-    class-word-requires
+    place-requires
     pack-counts-requires
     put-word-requires
-    add-put-word
+    place-requires-2
     pack-tally-requires
     put-word-requires-2
     same-length

@@ -1,0 +1,4 @@
+pub mod Places
+pub mod Write
+pub mod Paint
+pub mod Fits

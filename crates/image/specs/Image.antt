@@ -1,0 +1,46 @@
+-- The records of a pool as functions, one for each kind of record, and the bytes that they make. Assumes nothing.
+-- Everything above speaks of an image; words and bytes stay in this file's `paint`.
+use mathlib.Core.List.{List, [], _∷_}
+use Prim.Native.Nat.{ℕ, zero, suc, _+_, _-_, _*_}
+use Rattle.words.specs.Word.{word, setWord}
+use Rattle.records.specs.Layout.{countsPlace, tallyPlace, mapPlace, linksPlace}
+use Rattle.records.specs.declared.Header.{Header}
+use Rattle.records.specs.declared.ClassRecord.{ClassRecord}
+use Rattle.records.specs.declared.Links.{Links}
+use Rattle.records.specs.Header.{packHeader}
+use Rattle.records.specs.Class.{packCounts, packTally}
+use Rattle.records.specs.Page.{packLinks}
+
+-- of the header: free pages and first free run; of class c its record; of page p its map field and its links
+pub record Image : Type 0 where
+  pub freePages : ℕ
+  pub firstRun : ℕ
+  pub class : ℕ → ClassRecord
+  pub map : ℕ → ℕ
+  pub links : ℕ → Links
+
+-- edition 1 has class records of 2 words, smallest shift 3, page shift 12
+abbrev pub headerOf : ℕ → ℕ → ℕ → ℕ → Header
+headerOf w P free first =
+    record {
+      edition = w - 1;
+      «min_shift» = 3;
+      «page_shift» = 12;
+      pages = P;
+      «free_pages» = free;
+      «first_run» = record { 0 = first };
+    }
+
+-- the words at 0, .., at (n - 1) set to f 0, .., f (n - 1)
+unfoldable pub writeAt : (ℕ → ℕ) → ℕ → (ℕ → ℕ) → List ℕ → List ℕ
+writeAt at zero f s = s
+writeAt at (suc n) f s = setWord (writeAt at n f s) (at n) (f n)
+
+-- s with the records of P pages that the image says
+unfoldable pub paint : ℕ → ℕ → Image → List ℕ → List ℕ
+paint w P I s =
+    writeAt (linksPlace w) P (λ p. packLinks (I .links p))
+    (writeAt (mapPlace w) P (I .map)
+    (writeAt (tallyPlace w) 9 (λ c. packTally (I .class c))
+    (writeAt (countsPlace w) 9 (λ c. packCounts (I .class c))
+    (setWord s 0 (packHeader (headerOf w P (I .freePages) (I .firstRun)))))))

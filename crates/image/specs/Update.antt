@@ -1,0 +1,24 @@
+-- An image with one field changed. Assumes nothing.
+use Prim.Native.Nat.{ℕ}
+use Rattle.base.specs.Functions.{upd}
+use Rattle.records.specs.declared.ClassRecord.{ClassRecord}
+use Rattle.records.specs.declared.Links.{Links}
+use Rattle.image.specs.Image.{Image}
+
+abbrev pub setFree : Image → ℕ → Image
+setFree I n = record { freePages = n; firstRun = I .firstRun; class = I .class; map = I .map; links = I .links }
+
+abbrev pub setFirstRun : Image → ℕ → Image
+setFirstRun I p = record { freePages = I .freePages; firstRun = p; class = I .class; map = I .map; links = I .links }
+
+abbrev pub setClass : Image → ℕ → ClassRecord → Image
+setClass I c r = record { freePages = I .freePages; firstRun = I .firstRun; class = upd (I .class) c r; map = I .map; links = I .links }
+
+abbrev pub setMap : Image → ℕ → ℕ → Image
+setMap I p v = record { freePages = I .freePages; firstRun = I .firstRun; class = I .class; map = upd (I .map) p v; links = I .links }
+
+abbrev pub setAllLinks : Image → (ℕ → Links) → Image
+setAllLinks I f = record { freePages = I .freePages; firstRun = I .firstRun; class = I .class; map = I .map; links = f }
+
+abbrev pub setLinks : Image → ℕ → Links → Image
+setLinks I p l = setAllLinks I (upd (I .links) p l)
