@@ -76,7 +76,7 @@ pub fn put_header(pool: &mut [u8], h: Header)
     words::put_word(pool, 0, pack_header(h));
 }
 
-fn pack_counts(r: ClassRecord) -> u64
+pub fn pack_counts(r: ClassRecord) -> u64
     ensures { λ v. ⌜ v ≡ packCounts r ⌝ }
 {
     r.first.0 as u64 * 281474976710656
@@ -84,7 +84,7 @@ fn pack_counts(r: ClassRecord) -> u64
         + (r.total % 16777216) as u64
 }
 
-fn pack_tally(r: ClassRecord) -> u64
+pub fn pack_tally(r: ClassRecord) -> u64
     ensures { λ v. ⌜ v ≡ packTally r ⌝ }
 {
     r.reqs as u64 * 4294967296 + r.fails as u64

@@ -1,0 +1,41 @@
+// The refusals of the public calls.
+ghost use mathlib.Core.Path.{_≡_};
+ghost use Rattle.answers.specs.Outcome.{numberOf};
+
+pub enum Refusal {
+    // format: the slice has no room for one page
+    TooShort,
+    // format: the slice has room for more pages than a pool may have
+    TooLong,
+    // the records are not sound
+    NotSound,
+    // no free chunk and no free page, or no free run long enough
+    NoRoom,
+    // the offset lies past the pages
+    Outside,
+    // nothing is allocated at the offset
+    NotTaken,
+    // the offset does not start a block
+    NotAStart,
+    // a script line that is no call
+    Unreadable,
+    // more script than the program reads
+    ScriptTooLong,
+}
+
+// The refusal's number in document 01.
+pub fn number(r: Refusal) -> u8
+    ensures { λ n. ⌜ n ≡ numberOf r ⌝ }
+{
+    match r {
+        Refusal::TooShort => 1,
+        Refusal::TooLong => 2,
+        Refusal::NotSound => 3,
+        Refusal::NoRoom => 4,
+        Refusal::Outside => 5,
+        Refusal::NotTaken => 6,
+        Refusal::NotAStart => 7,
+        Refusal::Unreadable => 8,
+        Refusal::ScriptTooLong => 9,
+    }
+}

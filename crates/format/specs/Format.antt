@@ -1,0 +1,83 @@
+-- Format: what it answers, by the slice's length alone, and what it leaves. Assumes nothing.
+use Prim.Native.Nat.{ℕ, _+_, _-_, _*_}
+use mathlib.Core.List.{List}
+use lib.Dec.{leb, ltb}
+use lib.ListN.{length}
+use Rattle.base.specs.Tests.{pick}
+use Rattle.words.specs.Word.{setWord}
+use Rattle.records.specs.Layout.{noPage, countsPlace, tallyPlace, mapPlace, linksPlace, pageCount, maxPages}
+use Rattle.records.specs.declared.ClassRecord.{ClassRecord}
+use Rattle.records.specs.declared.Links.{Links}
+use Rattle.records.specs.Header.{withHeader}
+use Rattle.records.specs.Class.{packCounts, packTally}
+use Rattle.records.specs.Page.{packLinks, withLinks}
+use Rattle.image.specs.Image.{Image, headerOf, writeAt, paint}
+use Rattle.image.specs.Update.{setLinks}
+use Rattle.answers.specs.Outcome.{Outcome, granted, refused}
+use Rattle.answers.specs.declared.Refusal.the-variants.{TooShort, TooLong}
+use Rattle.format.specs.declared.Formatted.{Formatted}
+use Rattle.format.specs.declared.Formatted.the-variants.{Pages, Refused}
+
+-- ---- the answer
+
+abbrev pub outcomeOf : Formatted → Outcome
+outcomeOf (Pages n) = granted n
+outcomeOf (Refused r) = refused r
+
+-- the least length that gives a page, and the least that gives too many
+abbrev pub shortest : ℕ → ℕ
+shortest w = 8 + 72 * w + 4112
+
+abbrev pub tooLong : ℕ → ℕ
+tooLong w = 8 + 72 * w + 4112 * (maxPages + 1)
+
+unfoldable pub formatOutcome : ℕ → ℕ → Outcome
+formatOutcome w len =
+    pick (ltb len (shortest w)) (refused TooShort) (pick (leb (tooLong w) len) (refused TooLong) (granted (pageCount w len)))
+
+-- ---- the slice
+
+-- no first page, all counts 0
+abbrev pub emptyClass : ClassRecord
+emptyClass = record { first = record { 0 = noPage }; used = 0; total = 0; reqs = 0; fails = 0 }
+
+-- a page inside a free run, where prev is the run's first page in the run's last page and else no page
+abbrev pub insideFree : ℕ → Links
+insideFree prev = record { kind = 0; class = 0; run = 0; next = record { 0 = noPage }; prev = record { 0 = prev } }
+
+-- the first page of a free run of n pages that is alone on its list
+abbrev pub firstFree : ℕ → Links
+firstFree n = record { kind = 1; class = 0; run = n; next = record { 0 = noPage }; prev = record { 0 = noPage } }
+
+-- P pages, all inside a free run
+abbrev pub allFree : ℕ → Image
+allFree P = record { freePages = P; firstRun = 0; class = λ c. emptyClass; map = λ p. 0; links = λ p. insideFree noPage }
+
+-- one free run of P pages
+unfoldable pub freshImage : ℕ → Image
+freshImage P = setLinks (setLinks (allFree P) (P - 1) (insideFree 0)) 0 (firstFree P)
+
+-- header, class records and page records are written; page bytes and tail stay
+unfoldable pub formatted : ℕ → List ℕ → List ℕ
+formatted w s =
+    pick (ltb (length s) (shortest w)) s
+    (pick (leb (tooLong w) (length s)) s (paint w (pageCount w (length s)) (freshImage (pageCount w (length s))) s))
+
+-- ---- the stores that do it
+
+-- n words, `step` apart from `from` on
+unfoldable pub filled : List ℕ → ℕ → ℕ → ℕ → ℕ → List ℕ
+filled s from step n v = writeAt (λ i. from + step * i) n (λ i. v) s
+
+unfoldable pub classesCleared : ℕ → List ℕ → List ℕ
+classesCleared w s = filled (filled s 1 w 9 (packCounts emptyClass)) 2 w 9 (packTally emptyClass)
+
+unfoldable pub pagesCleared : ℕ → ℕ → List ℕ → List ℕ
+pagesCleared w P s = filled (filled s (1 + 9 * w) 2 P 0) (2 + 9 * w) 2 P (packLinks (insideFree noPage))
+
+-- the pages become one free run
+unfoldable pub runLinked : ℕ → ℕ → List ℕ → List ℕ
+runLinked w P s = withLinks w (withLinks w s (P - 1) (insideFree 0)) 0 (firstFree P)
+
+unfoldable pub written : ℕ → ℕ → List ℕ → List ℕ
+written w P s = runLinked w P (pagesCleared w P (classesCleared w (withHeader s (headerOf w P P 0))))

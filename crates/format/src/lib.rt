@@ -1,0 +1,137 @@
+// Format: makes a pool of edition 1 of a slice.
+use answers::Refusal;
+use records::ClassRecord;
+use records::Header;
+use records::Links;
+use records::PageNumber;
+ghost use mathlib.Core.Path.{_≡_};
+ghost use Prim.Native.Nat.{_≤_, _<_};
+ghost use lib.ListN.{length};
+ghost use Rattle.records.specs.Layout.{noPage, pageCount};
+ghost use Rattle.records.specs.Class.{packCounts, packTally};
+ghost use Rattle.image.specs.Image.{headerOf};
+ghost use Rattle.format.specs.Format.{outcomeOf, formatOutcome, emptyClass, insideFree, firstFree, formatted, filled, classesCleared, pagesCleared, runLinked, written};
+
+pub enum Formatted {
+    // the page count
+    Pages(u16),
+    Refused(Refusal),
+}
+
+// The header of a pool of one free run.
+fn fresh_header(w: u8, pages: u16) -> Header
+    requires { ⌜ 1 ≤ w ⌝ }
+    ensures { λ r. ⌜ r ≡ headerOf w pages pages 0 ⌝ }
+{
+    Header {
+        edition: w - 1,
+        min_shift: 3,
+        page_shift: 12,
+        pages: pages,
+        free_pages: pages,
+        first_run: PageNumber(0),
+    }
+}
+
+fn empty_class() -> ClassRecord
+    ensures { λ r. ⌜ r ≡ emptyClass ⌝ }
+{
+    ClassRecord {
+        first: PageNumber(65535),
+        used: 0,
+        total: 0,
+        reqs: 0,
+        fails: 0,
+    }
+}
+
+fn inside_free(prev: PageNumber) -> Links
+    ensures { λ r. ⌜ r ≡ insideFree (prev .0) ⌝ }
+{
+    Links {
+        kind: 0,
+        class: 0,
+        run: 0,
+        next: PageNumber(65535),
+        prev: PageNumber(prev.0),
+    }
+}
+
+fn first_free(pages: u16) -> Links
+    ensures { λ r. ⌜ r ≡ firstFree pages ⌝ }
+{
+    Links {
+        kind: 1,
+        class: 0,
+        run: pages,
+        next: PageNumber(65535),
+        prev: PageNumber(65535),
+    }
+}
+
+// Sets n words, `step` apart from `from` on.
+fn fill(pool: &mut [u8], from: u16, step: u8, n: u16, v: u64)
+    ensures { λ _. ⌜ now (pool .exit) ≡ filled (now (pool .entry)) from step n v ⌝ }
+{
+    let mut i = 0;
+    while i < n {
+        words::put_word(pool, records::place(from, step, i), v);
+        i += 1;
+    }
+}
+
+fn clear_classes(pool: &mut [u8], w: u8)
+    ensures { λ _. ⌜ now (pool .exit) ≡ classesCleared w (now (pool .entry)) ⌝ }
+{
+    fill(pool, 1, w, 9, records::pack_counts(empty_class()));
+    fill(pool, 2, w, 9, records::pack_tally(empty_class()));
+}
+
+fn clear_pages(pool: &mut [u8], w: u8, pages: u16)
+    ensures { λ _. ⌜ now (pool .exit) ≡ pagesCleared w pages (now (pool .entry)) ⌝ }
+{
+    fill(pool, 1 + 9 * w as u16, 2, pages, 0);
+    fill(
+        pool,
+        2 + 9 * w as u16,
+        2,
+        pages,
+        records::pack_links(inside_free(PageNumber(65535))),
+    );
+}
+
+// The pages become one free run.
+fn link_run(pool: &mut [u8], w: u8, pages: u16)
+    requires { ⌜ 1 ≤ pages ⌝ }
+    ensures { λ _. ⌜ now (pool .exit) ≡ runLinked w pages (now (pool .entry)) ⌝ }
+{
+    records::put_links(pool, w, PageNumber(pages - 1), inside_free(PageNumber(0)));
+    records::put_links(pool, w, PageNumber(0), first_free(pages));
+}
+
+// Header, class records and page records of a pool of one free run.
+fn write_records(pool: &mut [u8], w: u8, pages: u16)
+    requires { ⌜ (1 ≤ w) × (1 ≤ pages) ⌝ }
+    ensures { λ _. ⌜ now (pool .exit) ≡ written w pages (now (pool .entry)) ⌝ }
+{
+    records::put_header(pool, fresh_header(w, pages));
+    clear_classes(pool, w);
+    clear_pages(pool, w, pages);
+    link_run(pool, w, pages);
+}
+
+// Makes a pool of as many pages as the slice has room for. Page bytes and tail stay.
+pub fn format(pool: &mut [u8]) -> Formatted
+    ensures { λ r. ⌜ (outcomeOf r ≡ formatOutcome 2 (length (now (pool .entry)))) × (now (pool .exit) ≡ formatted 2 (now (pool .entry))) ⌝ }
+{
+    let len = pool.len();
+    if len < 4264 {
+        return Formatted::Refused(Refusal::TooShort);
+    }
+    if 1056936 <= len {
+        return Formatted::Refused(Refusal::TooLong);
+    }
+    let pages = ((len - 152) / 4112) as u16;
+    write_records(pool, 2, pages);
+    Formatted::Pages(pages)
+}
