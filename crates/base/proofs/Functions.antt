@@ -5,7 +5,7 @@ use Prim.Native.Nat.{ℕ, _+_, _≤_, _<_}
 use native.Mathlib.Omega.{arith}
 use borrow.Author.Tests.{lt-ltb, le-ltb, le-leb, lt-leb, eq-eqb, ne-eqb}
 use Rattle.base.specs.Functions.{upd, fill}
-use Rattle.base.proofs.Cases.{eq?, Out, in?}
+use Rattle.base.proofs.Cases.{eq?, Out}
 
 module _ {A : Type 0} (f : ℕ → A) where
   pub upd-same : (p : ℕ) (x : A) → upd f p x p ≡ x
@@ -15,6 +15,10 @@ module _ {A : Type 0} (f : ℕ → A) where
   pub upd-other : (p : ℕ) (x : A) (j : ℕ) → j ≢ p → upd f p x j ≡ f j
   unfolding upd
   upd-other p x j h = rw (ne-eqb j p h)
+
+  pub upd-out : (p : ℕ) (x : A) (j : ℕ) → Out p 1 j → upd f p x j ≡ f j
+  upd-out p x j (inl h) = upd-other p x j (omega arith)
+  upd-out p x j (inr h) = upd-other p x j (omega arith)
 
   pub fill-in : (s k : ℕ) (x : A) (j : ℕ) → s ≤ j → j < s + k → fill f s k x j ≡ x
   unfolding fill
@@ -38,10 +42,3 @@ module _ {A : Type 0} (P : ℕ → A → Type 0) {f : ℕ → A} (old : (q : ℕ
       go : (q ≡ p) ⊎ (q ≢ p) → P q (upd f p x q)
       go (inl e) = rw (e, upd-same f p x) h
       go (inr d) = rw (upd-other f p x q d) (old q)
-
-  pub fill-keeps : (a k : ℕ) (x : A) → ((q : ℕ) → P q x) → (q : ℕ) → P q (fill f a k x q)
-  fill-keeps a k x h q = go (in? a k q)
-    where
-      go : ((a ≤ q) × (q < a + k)) ⊎ Out a k q → P q (fill f a k x q)
-      go (inl (l, u)) = rw (fill-in f a k x q l u) (h q)
-      go (inr o) = rw (fill-out f a k x q o) (old q)

@@ -53,11 +53,3 @@ module _ {A : Type 0} where
   pub append-right : (x : A) (xs ys : List A) → Mem x ys → Mem x (xs ++ ys)
   append-right x [] ys m = m
   append-right x (a ∷ xs) ys m = inr (append-right x xs ys m)
-
-  pub append-once : (xs ys : List A) → NoDup xs → NoDup ys → ((x : A) → Mem x xs → Mem x ys → ⊥) → NoDup (xs ++ ys)
-  append-once [] ys d e h = e
-  append-once (a ∷ xs) ys d e h = (λ m. go (mem-append a xs ys m), append-once xs ys (d .1) e (λ x m n. h x (inr m) n))
-    where
-      go : Mem a xs ⊎ Mem a ys → ⊥
-      go (inl m) = d .0 m
-      go (inr m) = h a (inl refl) m

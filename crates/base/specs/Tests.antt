@@ -7,3 +7,13 @@ use Prim.Native.Nat.{ℕ, zero, suc}
 unfoldable pub pick {ℓ} : {A : Type ℓ} → Bool → A → A → A
 pick true a b = a
 pick false a b = b
+
+-- all of these hold
+unfoldable pub allOf : List Bool → Bool
+allOf [] = true
+allOf (b ∷ bs) = pick b (allOf bs) false
+
+-- each number below n passes the test
+unfoldable pub allBelow : (ℕ → Bool) → ℕ → Bool
+allBelow t zero = true
+allBelow t (suc n) = pick (t n) (allBelow t n) false
