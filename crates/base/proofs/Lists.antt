@@ -1,9 +1,10 @@
 -- Laws of `specs/Lists.antt`.
 use mathlib.Core.Path.{_≡_, refl}
 use mathlib.Core.Logic.{_⊎_, inl, inr}
-use mathlib.Core.Bool.{Bool, true, false, cond}
+use mathlib.Core.Bool.{Bool, true, false, cond, _||_, or-true}
 use mathlib.Core.List.{List, [], _∷_, _++_}
-use Rattle.base.specs.Lists.{Mem, NoDup, keep}
+use Rattle.base.specs.Lists.{Mem, NoDup, keep, has}
+use Rattle.base.proofs.Cases.{clash}
 
 module _ {A : Type 0} where
   pub mem-cast : {x y : A} (xs : List A) → x ≡ y → Mem y xs → Mem x xs
@@ -34,6 +35,20 @@ module _ {A : Type 0} where
       go : (t : Bool) → NoDup (keep q ys) → NoDup (cond t (y ∷ keep q ys) (keep q ys))
       go true d = (λ m. h .0 (keep-mem q y ys m .0), d)
       go false d = d
+
+  -- ---- some element that passes a test
+
+  pub has-mem : (q : A → Bool) (xs : List A) → has q xs ≡ true → (x : A) × Mem x xs × (q x ≡ true)
+  has-mem q [] h = absurd (clash h refl)
+  has-mem q (x ∷ xs) h = go (q x) refl h (has-mem q xs)
+    where
+      go : (t : Bool) → q x ≡ t → t || has q xs ≡ true → (has q xs ≡ true → (y : A) × Mem y xs × (q y ≡ true)) → (y : A) × Mem y (x ∷ xs) × (q y ≡ true)
+      go true e h ih = (x, inl refl, e)
+      go false e h ih = let (y, m, k) = ih h in (y, inr m, k)
+
+  pub mem-has : (q : A → Bool) (xs : List A) (x : A) → Mem x xs → q x ≡ true → has q xs ≡ true
+  mem-has q (y ∷ ys) x (inl p) e = rw (← p, e)
+  mem-has q (y ∷ ys) x (inr m) e = rw (mem-has q ys x m e) (or-true (q y))
 
   -- ---- two lists in a row
 

@@ -1,7 +1,7 @@
 -- Membership, no repeats, and the elements that pass a test.
 use mathlib.Core.Path.{_≡_}
 use mathlib.Core.Logic.{_⊎_}
-use mathlib.Core.Bool.{Bool, cond}
+use mathlib.Core.Bool.{Bool, false, cond, _||_}
 use mathlib.Core.List.{List, [], _∷_}
 
 -- x stands in the list
@@ -18,3 +18,8 @@ NoDup (x ∷ xs) = (¬ Mem x xs) × NoDup xs
 abbrev pub keep : {A : Type 0} → (A → Bool) → List A → List A
 keep q [] = []
 keep q (x ∷ xs) = cond (q x) (x ∷ keep q xs) (keep q xs)
+
+-- some element passes the test q
+abbrev pub has : {A : Type 0} → (A → Bool) → List A → Bool
+has q [] = false
+has q (x ∷ xs) = q x || has q xs

@@ -27,7 +27,3 @@ pagesFrom w P = 8 * (1 + 9 * w + 2 * P)
 -- the page count that a length gives: each page has 4,096 bytes and a record of 16
 abbrev pub pageCount : ℕ → ℕ → ℕ
 pageCount w len = (len - (8 + 72 * w)) / 4112
-
--- the largest page count of a pool
-abbrev pub maxPages : ℕ
-maxPages = 256

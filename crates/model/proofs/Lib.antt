@@ -1,0 +1,27 @@
+-- The proofs of the model; `Claim` ends with all statements.
+pub mod Classes
+pub mod Runs
+pub mod Table
+pub mod Lists
+pub mod Tallies
+pub mod Blocks
+pub mod Occupy
+pub mod AllocRun
+pub mod CutPage
+pub mod Remark
+pub mod MarkChunk
+pub mod Release
+pub mod FreeRun
+pub mod FreeChunk
+pub mod Steps
+pub mod Fresh
+pub mod LiveSets
+pub mod Shown
+pub mod Counts
+pub mod Readings
+pub mod Ruling
+pub mod Placing
+pub mod Room
+pub mod Alike
+pub mod Examples
+pub mod Claim

@@ -1,0 +1,49 @@
+-- The state of a pool apart from its bytes. Links, back links and counts are functions of it, so nothing is stored twice.
+use mathlib.Core.Bool.{Bool, true, false}
+use mathlib.Core.List.{List}
+use Prim.Native.Nat.{ℕ}
+
+-- what a page is
+pub data Page : Type 0 where
+  idle : Page  -- in a free run
+  slab : ℕ → (ℕ → Bool) → Page  -- a page of a class, with its marks
+  taken : ℕ → Page  -- the first page of a taken run of so many pages
+  inside : Page  -- another page of a taken run
+  edge : Page  -- past the last page
+
+-- a free run: its first page and its length
+pub record Run : Type 0 where
+  pub start : ℕ
+  pub len : ℕ
+
+-- where a tally stops
+unfoldable pub most : ℕ
+most = 4294967295
+
+-- the counts of one class (document 01: asks and failures)
+pub record Tally : Type 0 where
+  pub reqs : ℕ
+  pub fails : ℕ
+
+-- the pages; the free runs in list order; for each class its pages with a clear mark, in list order; for each class its tally
+pub record State : Type 0 where
+  pub size : ℕ
+  pub page : ℕ → Page
+  pub runs : List Run
+  pub lists : ℕ → List ℕ
+  pub tally : ℕ → Tally
+
+abbrev pub isIdle : Page → Bool
+isIdle idle = true
+isIdle (slab c m) = false
+isIdle (taken n) = false
+isIdle inside = false
+isIdle edge = false
+
+-- the marks of a class page
+abbrev pub marksOf : Page → ℕ → Bool
+marksOf idle i = false
+marksOf (slab c m) i = m i
+marksOf (taken n) i = false
+marksOf inside i = false
+marksOf edge i = false
