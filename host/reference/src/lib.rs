@@ -1,0 +1,27 @@
+//! The shared pool's slab allocator in ordinary Rust.
+//!
+//! This is an independent reading of the pool's rules, written without proofs.
+//! Differential tests and benchmarks hold the proved allocator against it. A
+//! pool is a lent slice of bytes; every call works on that slice in place.
+//!
+//! - [`format()`], [`validate()`], [`alloc()`] and [`free()`] are the four calls.
+//! - [`view`] predicts, from calls and answers alone, what a pool must show.
+//! - [`script`] serves a text of takes and gives.
+
+#![forbid(unsafe_code)]
+#![warn(missing_docs)]
+
+pub mod class;
+pub mod layout;
+pub mod pool;
+pub mod refusal;
+pub mod script;
+pub mod validate;
+pub mod view;
+
+pub use class::{need, Class, Need, CLASSES};
+pub use pool::{alloc, alloc_sound, format, free, free_sound};
+pub use refusal::Refusal;
+pub use script::run_script;
+pub use validate::{broken_rule, validate};
+pub use view::{live_blocks, shown, Block, Call, LiveSet, View};

@@ -1,0 +1,61 @@
+//! The nine ways a call or a script line is refused.
+
+use std::fmt;
+
+/// Why a call was refused. No other refusals exist.
+#[derive(Clone, Copy, Debug, PartialEq, Eq)]
+pub enum Refusal {
+    /// Format: the slice holds no page.
+    TooShort,
+    /// Format: the slice holds more pages than a pool may have.
+    TooLong,
+    /// Alloc or free: the pool's records are not sound.
+    NotSound,
+    /// Alloc: no free chunk and no free page, or no run long enough.
+    NoRoom,
+    /// Free: the offset lies at or past the end of the last page.
+    Outside,
+    /// Free: the page is free, or the chunk's mark is clear.
+    NotTaken,
+    /// Free: no block can begin at this offset.
+    NotAStart,
+    /// Script: the line is not a call.
+    Unreadable,
+    /// Script: the input is longer than a script may be.
+    ScriptTooLong,
+}
+
+impl Refusal {
+    /// The number that stands for this refusal in printouts and answers.
+    pub fn number(self) -> u8 {
+        match self {
+            Refusal::TooShort => 1,
+            Refusal::TooLong => 2,
+            Refusal::NotSound => 3,
+            Refusal::NoRoom => 4,
+            Refusal::Outside => 5,
+            Refusal::NotTaken => 6,
+            Refusal::NotAStart => 7,
+            Refusal::Unreadable => 8,
+            Refusal::ScriptTooLong => 9,
+        }
+    }
+}
+
+impl fmt::Display for Refusal {
+    fn fmt(&self, f: &mut fmt::Formatter<'_>) -> fmt::Result {
+        f.write_str(match self {
+            Refusal::TooShort => "too short",
+            Refusal::TooLong => "too long",
+            Refusal::NotSound => "not sound",
+            Refusal::NoRoom => "no room",
+            Refusal::Outside => "outside",
+            Refusal::NotTaken => "not taken",
+            Refusal::NotAStart => "not a start",
+            Refusal::Unreadable => "unreadable",
+            Refusal::ScriptTooLong => "script too long",
+        })
+    }
+}
+
+impl std::error::Error for Refusal {}

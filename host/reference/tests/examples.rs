@@ -1,0 +1,546 @@
+//! The examples of the rules, the refusals and their order, and the errors
+//! that would look right.
+
+use std::io::Write;
+use std::process::{Command, Stdio};
+
+use reference::{alloc, format, free, run_script, shown, validate, Class, Refusal};
+
+#[path = "support/bits.rs"]
+#[allow(dead_code)] // These tests read only a few of the fields.
+mod bits;
+
+use bits::{get, page_byte};
+
+/// Bytes of a slice that holds exactly this many pages.
+fn length(pages: usize) -> usize {
+    152 + 4_112 * pages
+}
+
+/// A formatted pool over bytes that were not zero.
+fn pool(pages: usize) -> Vec<u8> {
+    let mut bytes = vec![0xA5; length(pages)];
+    assert_eq!(format(&mut bytes), Ok(pages as u32));
+    assert!(validate(&bytes));
+    bytes
+}
+
+fn class_field(bytes: &[u8], class: usize, above: usize, width: usize) -> u64 {
+    get(bytes, bits::class_record(class) + above, width)
+}
+
+fn reqs_and_fails(bytes: &[u8], class: usize) -> (u64, u64) {
+    let field = |above| class_field(bytes, class, above, 32);
+    (field(bits::REQS), field(bits::FAILS))
+}
+
+fn used_and_total(bytes: &[u8], class: usize) -> (u64, u64) {
+    let field = |above| class_field(bytes, class, above, 24);
+    (field(bits::USED), field(bits::TOTAL))
+}
+
+/// Free runs in list order, as first page and length.
+fn run_list(bytes: &[u8]) -> Vec<(u64, u64)> {
+    let mut runs = Vec::new();
+    let mut page = get(bytes, bits::FIRST, 16);
+    while page != 65_535 {
+        let at = bits::page_record(page as usize);
+        runs.push((page, get(bytes, at + bits::RUN, 16)));
+        page = get(bytes, at + bits::NEXT, 16);
+    }
+    runs
+}
+
+/// The call is refused so, and changes nothing.
+fn refused<T: std::fmt::Debug + PartialEq>(
+    bytes: &mut [u8],
+    refusal: Refusal,
+    call: impl Fn(&mut [u8]) -> Result<T, Refusal>,
+) {
+    let before = bytes.to_vec();
+    assert_eq!(call(bytes), Err(refusal));
+    assert!(bytes == before, "{refusal} changed the pool");
+}
+
+fn free_refused(bytes: &mut [u8], offset: u32, refusal: Refusal) {
+    refused(bytes, refusal, |bytes| free(bytes, offset));
+}
+
+fn script(input: &str) -> String {
+    String::from_utf8(run_script(input.as_bytes())).unwrap()
+}
+
+#[test]
+fn format_lengths() {
+    refused(&mut vec![7; 4_263], Refusal::TooShort, format);
+    assert_eq!(format(&mut vec![7; 4_264]), Ok(1));
+    assert_eq!(format(&mut vec![7; 1_056_935]), Ok(256));
+    refused(&mut vec![7; 1_056_936], Refusal::TooLong, format);
+    for bytes in [0, 1, 8, 151, 152, 153] {
+        refused(&mut vec![7; bytes], Refusal::TooShort, format);
+    }
+    refused(&mut vec![7; 2_000_000], Refusal::TooLong, format);
+}
+
+#[test]
+fn format_writes_records_alone() {
+    for pages in [1, 2, 3, 256] {
+        let tail = if pages == 1 { 4_111 } else { 17 };
+        let mut bytes = vec![0xA5; length(pages) + tail];
+        assert_eq!(format(&mut bytes), Ok(pages as u32));
+
+        let mut expected = vec![0xA5; length(pages) + tail];
+        let header = 0x013C << 48 | (pages as u64) << 32 | (pages as u64) << 16;
+        expected[..8].copy_from_slice(&header.to_be_bytes());
+        for class in 0..9 {
+            let at = 8 + 16 * class;
+            expected[at..at + 16].fill(0);
+            expected[at..at + 2].fill(0xFF);
+        }
+        for page in 0..pages {
+            let (kind, run) = if page == 0 { (1, pages) } else { (0, 0) };
+            let last = page > 0 && page == pages - 1;
+            let previous = if last { 0 } else { 65_535 };
+            let record = kind << 61 | (run as u128) << 41 | 65_535 << 25 | previous << 9;
+            let at = 152 + 16 * page;
+            expected[at..at + 16].copy_from_slice(&record.to_be_bytes());
+        }
+        assert!(bytes == expected, "{pages} pages");
+        assert!(validate(&bytes));
+    }
+}
+
+#[test]
+fn sizes_and_classes() {
+    let sizes = [
+        (0, 0),
+        (1, 0),
+        (8, 0),
+        (9, 1),
+        (16, 1),
+        (17, 2),
+        (32, 2),
+        (33, 3),
+        (64, 3),
+        (65, 4),
+        (128, 4),
+        (129, 5),
+        (256, 5),
+        (257, 6),
+        (512, 6),
+        (513, 7),
+        (1_024, 7),
+        (1_025, 8),
+        (2_048, 8),
+    ];
+    for (size, class) in sizes {
+        let mut bytes = pool(12);
+        alloc(&mut bytes, size).unwrap();
+        let class_of_page = shown(&bytes).unwrap().classes[0];
+        assert_eq!(class_of_page, Class::new(class), "size {size}");
+        assert_eq!(reqs_and_fails(&bytes, class as usize), (1, 0));
+    }
+    for (size, pages) in [(2_049, 1), (4_096, 1), (4_097, 2), (8_192, 2), (8_193, 3)] {
+        let mut bytes = pool(12);
+        assert_eq!(alloc(&mut bytes, size), Ok(0));
+        assert_eq!(run_list(&bytes), [(pages, 12 - pages)], "size {size}");
+        assert_eq!(get(&bytes, bits::page_record(0) + bits::KIND, 3), 3);
+        assert_eq!(get(&bytes, bits::page_record(0) + bits::RUN, 16), pages);
+    }
+}
+
+#[test]
+fn first_chunk_of_a_fresh_pool() {
+    let offsets = [64, 32, 32, 0, 0, 0, 0, 0, 0];
+    for (class, offset) in offsets.into_iter().enumerate() {
+        assert_eq!(alloc(&mut pool(12), 8 << class), Ok(offset));
+    }
+}
+
+#[test]
+fn one_page_of_two_chunks() {
+    let mut bytes = pool(1);
+    assert_eq!(alloc(&mut bytes, 2_048), Ok(0));
+    assert_eq!(alloc(&mut bytes, 2_048), Ok(2_048));
+    let before = bytes.clone();
+    assert_eq!(alloc(&mut bytes, 1), Err(Refusal::NoRoom));
+    assert_eq!(reqs_and_fails(&bytes, 0), (1, 1));
+    // Nothing but the two counts moved.
+    let history = 8 + 8..8 + 16;
+    assert_eq!(bytes[..history.start], before[..history.start]);
+    assert_eq!(bytes[history.end..], before[history.end..]);
+    // A full page of the class itself has no room either.
+    assert_eq!(alloc(&mut bytes, 2_048), Err(Refusal::NoRoom));
+    assert_eq!(reqs_and_fails(&bytes, 8), (3, 1));
+    assert_eq!(used_and_total(&bytes, 8), (2, 2));
+}
+
+#[test]
+fn every_chunk_of_a_page_is_served_in_order() {
+    let served = [504, 254, 127, 64, 32, 16, 8, 4, 2];
+    for (class, chunks) in served.into_iter().enumerate() {
+        let size = 8 << class;
+        let mut bytes = pool(1);
+        for chunk in 1..=chunks {
+            let offset = 4_096 - size * (chunks + 1 - chunk);
+            assert_eq!(alloc(&mut bytes, size), Ok(offset));
+            assert_eq!(used_and_total(&bytes, class), (chunk.into(), 512 >> class));
+        }
+        assert!(validate(&bytes));
+        assert_eq!(alloc(&mut bytes, size), Err(Refusal::NoRoom));
+        let reqs = u64::from(chunks) + 1;
+        assert_eq!(reqs_and_fails(&bytes, class), (reqs, 1));
+    }
+}
+
+#[test]
+fn the_504th_of_class_8() {
+    let mut bytes = pool(1);
+    for _ in 1..504 {
+        alloc(&mut bytes, 8).unwrap();
+    }
+    assert_eq!(alloc(&mut bytes, 8), Ok(4_088));
+    assert_eq!(alloc(&mut bytes, 8), Err(Refusal::NoRoom));
+}
+
+#[test]
+fn frees_in_a_page_of_class_8() {
+    let mut bytes = pool(12);
+    assert_eq!(alloc(&mut bytes, 8), Ok(64));
+    assert_eq!(alloc(&mut bytes, 8), Ok(72));
+    free_refused(&mut bytes, 0, Refusal::NotAStart);
+    free_refused(&mut bytes, 65, Refusal::NotAStart);
+    assert_eq!(free(&mut bytes, 64), Ok(()));
+    free_refused(&mut bytes, 64, Refusal::NotTaken);
+    // The page goes with its last chunk, and is then free at any offset.
+    assert_eq!(free(&mut bytes, 72), Ok(()));
+    for offset in [0, 64, 65, 72, 4_095] {
+        free_refused(&mut bytes, offset, Refusal::NotTaken);
+    }
+}
+
+#[test]
+fn a_freed_page_goes_to_the_head() {
+    let mut bytes = pool(12);
+    for offset in [0, 4_096, 8_192] {
+        assert_eq!(alloc(&mut bytes, 4_096), Ok(offset));
+    }
+    assert_eq!(free(&mut bytes, 0), Ok(()));
+    assert_eq!(free(&mut bytes, 8_192), Ok(()));
+    assert_eq!(run_list(&bytes), [(2, 10), (0, 1)]);
+    assert_eq!(alloc(&mut bytes, 4_096), Ok(8_192));
+}
+
+#[test]
+fn a_run_is_freed_at_its_start_alone() {
+    let mut bytes = pool(12);
+    assert_eq!(alloc(&mut bytes, 8_192), Ok(0));
+    for offset in [1, 8, 4_095, 4_096, 4_097, 8_191] {
+        free_refused(&mut bytes, offset, Refusal::NotAStart);
+    }
+    assert_eq!(free(&mut bytes, 0), Ok(()));
+    free_refused(&mut bytes, 0, Refusal::NotTaken);
+    assert!(bytes == pool(12));
+}
+
+#[test]
+fn the_pools_end() {
+    let mut bytes = pool(12);
+    free_refused(&mut bytes, 49_151, Refusal::NotTaken);
+    free_refused(&mut bytes, 49_152, Refusal::Outside);
+    free_refused(&mut bytes, u32::MAX, Refusal::Outside);
+    // A tail long enough to look like more pages changes nothing of that.
+    let mut bytes = vec![0xA5; length(12) + 4_111];
+    format(&mut bytes).unwrap();
+    free_refused(&mut bytes, 49_152, Refusal::Outside);
+}
+
+#[test]
+fn soundness_is_judged_first() {
+    let mut bytes = pool(12);
+    assert_eq!(alloc(&mut bytes, 8_192), Ok(0));
+    bytes[0] ^= 1;
+    for size in [0, 8, 4_096, u32::MAX] {
+        refused(&mut bytes, Refusal::NotSound, |bytes| alloc(bytes, size));
+    }
+    for offset in [0, 4_096, 8_192, 49_152, u32::MAX] {
+        free_refused(&mut bytes, offset, Refusal::NotSound);
+    }
+    for length in [0, 8, 4_263, 1_056_936] {
+        let mut bytes = vec![0; length];
+        refused(&mut bytes, Refusal::NotSound, |bytes| alloc(bytes, 1));
+        free_refused(&mut bytes, u32::MAX, Refusal::NotSound);
+    }
+}
+
+#[test]
+fn boundary_and_own_chunks_come_before_the_mark() {
+    for (class, own) in [(0, 8), (1, 2), (2, 1)] {
+        let size = 8 << class;
+        let mut bytes = pool(1);
+        let offset = alloc(&mut bytes, size).unwrap();
+        assert_eq!(offset, own * size);
+        // Clearing one of the map's own marks is what nginx would do here.
+        for chunk in 0..own {
+            free_refused(&mut bytes, chunk * size, Refusal::NotAStart);
+        }
+        free_refused(&mut bytes, offset + 1, Refusal::NotAStart);
+        free_refused(&mut bytes, offset + size / 2, Refusal::NotAStart);
+        free_refused(&mut bytes, offset + size, Refusal::NotTaken);
+        free_refused(&mut bytes, offset + size + 1, Refusal::NotAStart);
+        free_refused(&mut bytes, 4_096 - size, Refusal::NotTaken);
+        free_refused(&mut bytes, 4_095, Refusal::NotAStart);
+        assert_eq!(free(&mut bytes, offset), Ok(()));
+    }
+    let mut bytes = pool(1);
+    assert_eq!(alloc(&mut bytes, 64), Ok(0));
+    free_refused(&mut bytes, 32, Refusal::NotAStart);
+    free_refused(&mut bytes, 64, Refusal::NotTaken);
+    assert_eq!(free(&mut bytes, 0), Ok(()));
+}
+
+#[test]
+fn page_takes_without_room_change_nothing() {
+    let mut bytes = pool(3);
+    for size in [12_289, 65_536 * 4_096 - 1, u32::MAX] {
+        refused(&mut bytes, Refusal::NoRoom, |bytes| alloc(bytes, size));
+    }
+    for offset in [0, 4_096, 8_192] {
+        assert_eq!(alloc(&mut bytes, 4_096), Ok(offset));
+    }
+    refused(&mut bytes, Refusal::NoRoom, |bytes| alloc(bytes, 2_049));
+    // Two free pages that do not touch make no run of two.
+    free(&mut bytes, 0).unwrap();
+    free(&mut bytes, 8_192).unwrap();
+    refused(&mut bytes, Refusal::NoRoom, |bytes| alloc(bytes, 4_097));
+}
+
+#[test]
+fn reqs_and_fails_stop_at_the_largest_number() {
+    let mut bytes = pool(1);
+    let history = bits::class_record(3) + bits::REQS;
+    bits::set(&mut bytes, history, 64, 0xFFFF_FFFE_FFFF_FFFE);
+    alloc(&mut bytes, 4_096).unwrap();
+    for _ in 0..3 {
+        assert_eq!(alloc(&mut bytes, 64), Err(Refusal::NoRoom));
+        let most = u64::from(u32::MAX);
+        assert_eq!(reqs_and_fails(&bytes, 3), (most, most));
+    }
+}
+
+#[test]
+fn the_lists_first_run_that_fits_not_the_lowest() {
+    let mut bytes = pool(12);
+    for _ in 0..6 {
+        alloc(&mut bytes, 4_096).unwrap();
+    }
+    free(&mut bytes, 0).unwrap();
+    free(&mut bytes, 3 * 4_096).unwrap();
+    free(&mut bytes, 4 * 4_096).unwrap();
+    assert_eq!(run_list(&bytes), [(3, 2), (0, 1), (6, 6)]);
+    assert_eq!(alloc(&mut bytes, 4_096), Ok(3 * 4_096));
+    // What remains keeps the run's place.
+    assert_eq!(run_list(&bytes), [(4, 1), (0, 1), (6, 6)]);
+    // The walk passes runs that are too short.
+    assert_eq!(alloc(&mut bytes, 2 * 4_096), Ok(6 * 4_096));
+    assert_eq!(run_list(&bytes), [(4, 1), (0, 1), (8, 4)]);
+    // An exact fit leaves the list.
+    assert_eq!(alloc(&mut bytes, 64), Ok(4 * 4_096));
+    assert_eq!(run_list(&bytes), [(0, 1), (8, 4)]);
+    assert!(validate(&bytes));
+}
+
+#[test]
+fn the_search_goes_past_64_marks() {
+    let mut bytes = pool(1);
+    for _ in 0..56 {
+        alloc(&mut bytes, 8).unwrap();
+    }
+    assert_eq!(alloc(&mut bytes, 8), Ok(512));
+    while alloc(&mut bytes, 8).is_ok() {}
+    free(&mut bytes, 8 * 500).unwrap();
+    free(&mut bytes, 8 * 130).unwrap();
+    assert_eq!(alloc(&mut bytes, 8), Ok(8 * 130));
+    assert_eq!(alloc(&mut bytes, 8), Ok(8 * 500));
+    assert_eq!(alloc(&mut bytes, 8), Err(Refusal::NoRoom));
+}
+
+#[test]
+fn a_joined_run_becomes_the_head() {
+    let mut bytes = pool(12);
+    for _ in 0..12 {
+        alloc(&mut bytes, 4_096).unwrap();
+    }
+    for page in [1, 5, 9] {
+        free(&mut bytes, page * 4_096).unwrap();
+    }
+    assert_eq!(run_list(&bytes), [(9, 1), (5, 1), (1, 1)]);
+    // With the run right after, then with the one right before.
+    free(&mut bytes, 0).unwrap();
+    assert_eq!(run_list(&bytes), [(0, 2), (9, 1), (5, 1)]);
+    free(&mut bytes, 6 * 4_096).unwrap();
+    assert_eq!(run_list(&bytes), [(5, 2), (0, 2), (9, 1)]);
+    // With both.
+    free(&mut bytes, 2 * 4_096).unwrap();
+    free(&mut bytes, 8 * 4_096).unwrap();
+    assert_eq!(run_list(&bytes), [(8, 2), (0, 3), (5, 2)]);
+    free(&mut bytes, 7 * 4_096).unwrap();
+    assert_eq!(run_list(&bytes), [(5, 5), (0, 3)]);
+    assert!(validate(&bytes));
+}
+
+#[test]
+fn a_full_page_returns_to_the_head_of_its_list() {
+    let mut bytes = pool(12);
+    for page in 0..3 {
+        assert_eq!(alloc(&mut bytes, 2_048), Ok(page * 4_096));
+        assert_eq!(alloc(&mut bytes, 2_048), Ok(page * 4_096 + 2_048));
+    }
+    assert_eq!(class_field(&bytes, 8, bits::CLASS_FIRST, 16), 65_535);
+    free(&mut bytes, 2_048).unwrap();
+    free(&mut bytes, 8_192).unwrap();
+    free(&mut bytes, 4_096).unwrap();
+    assert_eq!(alloc(&mut bytes, 2_048), Ok(4_096));
+    assert_eq!(alloc(&mut bytes, 2_048), Ok(8_192));
+    assert_eq!(alloc(&mut bytes, 2_048), Ok(2_048));
+    assert_eq!(used_and_total(&bytes, 8), (6, 6));
+}
+
+#[test]
+fn inside_pages_only_marks_change() {
+    for class in 0..9 {
+        let size = 8 << class;
+        let map_bytes = [64, 32, 16, 0, 0, 0, 0, 0, 0][class];
+        let mut bytes = pool(2);
+        let page = page_byte(2, 0);
+        let offset = alloc(&mut bytes, size).unwrap();
+        assert!(bytes[page + map_bytes..].iter().all(|byte| *byte == 0xA5));
+        free(&mut bytes, offset).unwrap();
+        assert!(bytes[page + map_bytes..].iter().all(|byte| *byte == 0xA5));
+        // A released page keeps the map's own marks.
+        let own = [8, 2, 1, 0, 0, 0, 0, 0, 0][class];
+        for bit in 0..map_bytes * 8 {
+            assert_eq!(get(&bytes, page * 8 + bit, 1), u64::from(bit < own));
+        }
+        assert!(bytes[..page] != pool(2)[..page], "asks are kept");
+    }
+}
+
+#[test]
+fn the_whole_case() {
+    let input = "take 30\ntake 64\ntake 5000\ngive 32\ngive 32\ntake 0\n";
+    let printout = "pool 12\nat 32\nat 4096\nat 8192\nback\nno 6\nat 64\nfree 8 runs 1\n";
+    assert_eq!(script(input), printout);
+    // A last line may lack its newline.
+    assert_eq!(script(input.trim_end()), printout);
+}
+
+#[test]
+fn script_lines() {
+    assert_eq!(script(""), "pool 12\nfree 12 runs 1\n");
+    assert_eq!(script("\n"), "pool 12\nno 8\nfree 12 runs 1\n");
+    assert_eq!(script("\n\n"), "pool 12\nno 8\nno 8\nfree 12 runs 1\n");
+    assert_eq!(script("give 0"), "pool 12\nno 6\nfree 12 runs 1\n");
+    assert_eq!(
+        script("take 1\n\n"),
+        "pool 12\nat 64\nno 8\nfree 11 runs 1\n"
+    );
+    let unreadable = [
+        "take",
+        "take ",
+        "give",
+        "give ",
+        " take 1",
+        "take 1 ",
+        "take  1",
+        "take\t1",
+        "take 1\r",
+        "take 1\0",
+        "take +1",
+        "take -1",
+        "take 01",
+        "take 00",
+        "take 0x1",
+        "take 1.0",
+        "take 1 2",
+        "take 4294967296",
+        "take 99999999999999999999999999",
+        "Take 1",
+        "TAKE 1",
+        "took 1",
+        "take1",
+        "1",
+        "take \u{661}",
+        "give 01",
+        "give -0",
+        "give 4294967296",
+    ];
+    for line in unreadable {
+        let printout = "pool 12\nno 8\nat 64\nfree 11 runs 1\n";
+        assert_eq!(script(&format!("{line}\ntake 1\n")), printout, "{line:?}");
+    }
+    let bytes = run_script(b"take \xFF\n\xFF");
+    assert_eq!(bytes, b"pool 12\nno 8\nno 8\nfree 12 runs 1\n");
+}
+
+#[test]
+fn script_numbers() {
+    let input = "take 4294967295\ngive 4294967295\ngive 0\ntake 0\n";
+    let printout = "pool 12\nno 4\nno 5\nno 6\nat 64\nfree 11 runs 1\n";
+    assert_eq!(script(input), printout);
+    let input = "take 4096\ntake 4096\ntake 4096\ngive 0\ngive 8192\ngive 4097\n";
+    let printout = "pool 12\nat 0\nat 4096\nat 8192\nback\nback\nno 7\nfree 11 runs 2\n";
+    assert_eq!(script(input), printout);
+    let printout = "pool 12\nat 0\nno 4\nfree 0 runs 0\n";
+    assert_eq!(script("take 49152\ntake 1"), printout);
+}
+
+#[test]
+fn script_length() {
+    let longest = "\n".repeat(12_288);
+    let printout = format!("pool 12\n{}free 12 runs 1\n", "no 8\n".repeat(12_288));
+    assert_eq!(script(&longest), printout);
+    assert_eq!(script(&(longest + "\n")), "no 9\n");
+    assert_eq!(run_script(&[0xFF; 20_000]), b"no 9\n");
+}
+
+#[test]
+fn the_script_program() {
+    let inputs = [
+        "",
+        "take 30\ntake 64\ngive 32\nnothing",
+        &"x".repeat(100_000),
+    ];
+    for input in inputs {
+        let mut program = Command::new(env!("CARGO_BIN_EXE_script"))
+            .stdin(Stdio::piped())
+            .stdout(Stdio::piped())
+            .spawn()
+            .unwrap();
+        let mut stdin = program.stdin.take().unwrap();
+        stdin.write_all(input.as_bytes()).unwrap();
+        drop(stdin);
+        let output = program.wait_with_output().unwrap();
+        assert!(output.status.success());
+        assert_eq!(output.stdout, run_script(input.as_bytes()));
+    }
+}
+
+#[test]
+fn refusal_numbers() {
+    let refusals = [
+        (Refusal::TooShort, "too short"),
+        (Refusal::TooLong, "too long"),
+        (Refusal::NotSound, "not sound"),
+        (Refusal::NoRoom, "no room"),
+        (Refusal::Outside, "outside"),
+        (Refusal::NotTaken, "not taken"),
+        (Refusal::NotAStart, "not a start"),
+        (Refusal::Unreadable, "unreadable"),
+        (Refusal::ScriptTooLong, "script too long"),
+    ];
+    for (number, (refusal, name)) in (1..).zip(refusals) {
+        assert_eq!(refusal.number(), number);
+        assert_eq!(refusal.to_string(), name);
+    }
+}
