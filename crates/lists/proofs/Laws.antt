@@ -98,13 +98,16 @@ module _ (I : Image) where
                 ne-eqb (q - noPage) 0 d,
               )
 
-  prev-first : (list v q : ℕ) → prevOf (putFirst I list v) q ≡ prevOf I q
+  first-off : (list v q : ℕ) → putFirst I list v .links q ≡ I .links q
   unfolding putFirst pick
-  prev-first list v q = go (eq? list 0)
+  first-off list v q = go (eq? list 0)
     where
-      go : (list ≡ 0) ⊎ (list ≢ 0) → prevOf (putFirst I list v) q ≡ prevOf I q
+      go : (list ≡ 0) ⊎ (list ≢ 0) → putFirst I list v .links q ≡ I .links q
       go (inl e) = rw (eq-eqb list 0 e)
       go (inr e) = rw (ne-eqb list 0 e)
+
+  prev-first : (list v q : ℕ) → prevOf (putFirst I list v) q ≡ prevOf I q
+  prev-first list v q = ap (λ (l : Links). l .prev .0) (first-off list v q)
 
   next-put : (list p v : ℕ) → p ≤ noPage → (q : ℕ) → nextOf (putNext I list p v) q ≡ upd (nextOf I) (node noPage (head list) p) v q
   unfolding putNext pick
@@ -128,6 +131,16 @@ module _ (I : Image) where
 
   prev-sets : (p v q : ℕ) → prevOf (putPrev I p v) q ≡ upd (prevOf I) p v q
   prev-sets p v q = field (λ l. l .prev .0) (I .links) p (prevTo (I .links p) v) v refl q
+
+  -- ---- links of other pages
+
+  next-off : (list p v q : ℕ) → q ≢ p → putNext I list p v .links q ≡ I .links q
+  unfolding putNext pick
+  next-off list p v q d = go (eq? p noPage)
+    where
+      go : (p ≡ noPage) ⊎ (p ≢ noPage) → putNext I list p v .links q ≡ I .links q
+      go (inl e) = rw (eq-eqb p noPage e) (first-off list v q)
+      go (inr e) = rw (ne-eqb p noPage e) (upd-other (I .links) p (nextTo (I .links p) v) q d)
 
 -- ---- the list itself
 
@@ -228,6 +241,60 @@ module _ (I : Image) (list : ℕ) (xs : List ℕ) (once : NoDup xs) (pages : (q 
       (own-next p page new N ∙ sym after)
       (own-prev p page new N ∙ sym before))
 
+  -- ---- the pages around a page of the list, and the list's first page
+
+  after-on : (p : ℕ) → Mem p xs → (I .links p .next .0 ≡ noPage) ⊎ Mem (I .links p .next .0) xs
+  after-on p m =
+      let e : I .links p .next .0 ≡ nextIn noPage p xs =
+      sym (next-page I p (pages p m)) ∙ K .nexts p (inr m) ∙ rw (ne-eqb (head list) p (λ d. no-head (rw d m))) in
+      rw e (next-on noPage p xs)
+
+  first-on : (zs : List ℕ) → (headOr noPage zs ≡ noPage) ⊎ Mem (headOr noPage zs) zs
+  first-on [] = inl refl
+  first-on (z ∷ zs) = inr (inl refl)
+
+  first-is : (firstIn I list ≡ noPage) ⊎ Mem (firstIn I list) xs
+  first-is =
+      let e : firstIn I list ≡ headOr noPage xs = sym (next-head I list) ∙ K .nexts (head list) (inl refl) ∙ rw (eq-eqb (head list) (head list) refl) in
+      rw e (first-on xs)
+
+  -- ---- pages that are not on the list keep their links
+
+  module _ (q : ℕ) (low : q < noPage) (out : ¬ Mem q xs) where
+    off-none : (x : ℕ) → (x ≡ noPage) ⊎ Mem x xs → q ≢ x
+    off-none x (inl a) e = omega arith
+    off-none x (inr n) e = out (rw e n)
+
+    off-prev : (p : ℕ) → Mem p xs → q ≢ prevOf I p
+    off-prev p m = go (prev-is p m)
+      where
+        go : Mem (prevOf I p) (noPage ∷ xs) → q ≢ prevOf I p
+        go (inl a) = off-none (prevOf I p) (inl a)
+        go (inr n) = off-none (prevOf I p) (inr n)
+
+    pub unlink-off : (p : ℕ) → Mem p xs → unlink I list (I .links p) .links q ≡ I .links q
+    unfolding unlink
+    unlink-off p m =
+        let a = I .links p .prev .0 in
+        let b = I .links p .next .0 in
+        upd-other (putNext I list a b .links) b _ q (off-none b (after-on p m)) ∙ next-off I list a b q (off-prev p m)
+
+    pub push-off : (p : ℕ) (l : Links) → q ≢ p → push I list p l .links q ≡ I .links q
+    unfolding push
+    push-off p l d =
+        let h = firstIn I list in
+        let J = setLinks I p (between l noPage h) in
+        first-off (putPrev J h p) list p q ∙ upd-other (J .links) h _ q (off-none h first-is) ∙ upd-other (I .links) p (between l noPage h) q d
+
+    pub put-off : (r p : ℕ) (l : Links) → Mem r xs → q ≢ p → put I list (I .links r) p l .links q ≡ I .links q
+    unfolding put
+    put-off r p l m d =
+        let a = I .links r .prev .0 in
+        let b = I .links r .next .0 in
+        let J = setLinks I p (between l a b) in
+        upd-other (putNext J list a p .links) b _ q (off-none b (after-on r m)) ∙ next-off J list a p q (off-prev r m)
+        ∙ upd-other (I .links) p (between l a b) q d
+
   -- ---- the nine other lists
   module _ (other : ℕ) (ys : List ℕ) (ne : other ≢ list) (low : (q : ℕ) → Mem q ys → q < noPage) (apart : (q : ℕ) → Mem q ys → ¬ Mem q xs)
       (O : Listed I other ys) where
@@ -238,10 +305,6 @@ module _ (I : Image) (list : ℕ) (xs : List ℕ) (once : NoDup xs) (pages : (q 
     off q x (inr m) (inl b) e = omega (arith, low q m)
     off q x (inr m) (inr n) e = apart q m (rw e n)
 
-    off-none : (q x : ℕ) → Mem q ys → (x ≡ noPage) ⊎ Mem x xs → q ≢ x
-    off-none q x m (inl a) e = omega (arith, low q m)
-    off-none q x m (inr n) e = apart q m (rw e n)
-
     -- where the page before p keeps its next
     node-on : (p : ℕ) → Mem p xs → Mem (node noPage (head list) (prevOf I p)) (head list ∷ xs)
     node-on p m = go (eq? (prevOf I p) noPage) (prev-is p m)
@@ -251,12 +314,6 @@ module _ (I : Image) (list : ℕ) (xs : List ℕ) (once : NoDup xs) (pages : (q 
         go (inr e) (inl k) = absurd (e k)
         go (inr e) (inr k) = rw (ne-eqb (prevOf I p) noPage e) (inr k)
 
-    after-on : (p : ℕ) → Mem p xs → (I .links p .next .0 ≡ noPage) ⊎ Mem (I .links p .next .0) xs
-    after-on p m =
-        let e : I .links p .next .0 ≡ nextIn noPage p xs =
-        sym (next-page I p (pages p m)) ∙ K .nexts p (inr m) ∙ rw (ne-eqb (head list) p (λ d. no-head (rw d m))) in
-        rw e (next-on noPage p xs)
-
     pub unlink-others : (p : ℕ) → Mem p xs → Listed (unlink I list (I .links p)) other ys
     unfolding unlink
     unlink-others p m =
@@ -264,17 +321,8 @@ module _ (I : Image) (list : ℕ) (xs : List ℕ) (once : NoDup xs) (pages : (q 
         let b = I .links p .next .0 in
         linked-frame
         (λ q k. next-keeps (putNext I list a b) b a q ∙ next-put I list a b (prev-most p m) q ∙ upd-other (nextOf I) _ b q (off q _ k (node-on p m)))
-        (λ q k. prev-sets (putNext I list a b) b a q ∙ upd-other (prevOf (putNext I list a b)) b a q (off-none q b k (after-on p m)) ∙ prev-put I list a b q)
+        (λ q k. prev-sets (putNext I list a b) b a q ∙ upd-other (prevOf (putNext I list a b)) b a q (off-none q (low q k) (apart q k) b (after-on p m)) ∙ prev-put I list a b q)
         O
-
-    first-on : (zs : List ℕ) → (headOr noPage zs ≡ noPage) ⊎ Mem (headOr noPage zs) zs
-    first-on [] = inl refl
-    first-on (z ∷ zs) = inr (inl refl)
-
-    first-is : (firstIn I list ≡ noPage) ⊎ Mem (firstIn I list) xs
-    first-is =
-        let e : firstIn I list ≡ headOr noPage xs = sym (next-head I list) ∙ K .nexts (head list) (inl refl) ∙ rw (eq-eqb (head list) (head list) refl) in
-        rw e (first-on xs)
 
     -- the new page is not on the other list
     module _ (p : ℕ) (page : p < noPage) (new : ¬ Mem p ys) where
@@ -292,7 +340,7 @@ module _ (I : Image) (list : ℕ) (xs : List ℕ) (once : NoDup xs) (pages : (q 
           next-first (putPrev J h p) list p q ∙ upd-other (nextOf (putPrev J h p)) (head list) p q (off q (head list) k (inl refl))
           ∙ next-keeps J h p q ∙ next-links I p (between l noPage h) page q ∙ upd-other (nextOf I) p h q (not-other q k))
           (λ q k.
-          prev-first (putPrev J h p) list p q ∙ prev-sets J h p q ∙ upd-other (prevOf J) h p q (off-none q h k first-is)
+          prev-first (putPrev J h p) list p q ∙ prev-sets J h p q ∙ upd-other (prevOf J) h p q (off-none q (low q k) (apart q k) h first-is)
           ∙ ap (λ (x : Links). x .prev .0) (upd-other (I .links) p (between l noPage h) q (not-other q (inr k))))
           O
 
@@ -307,7 +355,7 @@ module _ (I : Image) (list : ℕ) (xs : List ℕ) (once : NoDup xs) (pages : (q 
           next-keeps (putNext J list a p) b p q ∙ next-put J list a p (prev-most r m) q ∙ upd-other (nextOf J) _ p q (off q _ k (node-on r m))
           ∙ next-links I p (between l a b) page q ∙ upd-other (nextOf I) p b q (not-other q k))
           (λ q k.
-          prev-sets (putNext J list a p) b p q ∙ upd-other (prevOf (putNext J list a p)) b p q (off-none q b k (after-on r m)) ∙ prev-put J list a p q
+          prev-sets (putNext J list a p) b p q ∙ upd-other (prevOf (putNext J list a p)) b p q (off-none q (low q k) (apart q k) b (after-on r m)) ∙ prev-put J list a p q
           ∙ ap (λ (x : Links). x .prev .0) (upd-other (I .links) p (between l a b) q (not-other q (inr k))))
           O
 
