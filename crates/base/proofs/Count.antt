@@ -1,9 +1,10 @@
 -- Laws of `specs/Count.antt`.
 use mathlib.Core.Path.{_≡_, refl}
 use mathlib.Core.Logic.{_⊎_, inl, inr, _≢_}
-use Prim.Native.Nat.{ℕ, zero, suc, _+_, _<_}
+use mathlib.Core.Bool.{Bool, true, false}
+use Prim.Native.Nat.{ℕ, zero, suc, _+_, _*_, _≤_, _<_}
 use native.Mathlib.Omega.{arith}
-use Rattle.base.specs.Count.{sum}
+use Rattle.base.specs.Count.{sum, bit, count}
 use Rattle.base.proofs.Cases.{eq?}
 
 pub sum-ext : (h k : ℕ → ℕ) (n : ℕ) → ((j : ℕ) → j < n → h j ≡ k j) → sum h n ≡ sum k n
@@ -29,3 +30,17 @@ sum-bump h k (suc n) i l e b = go (eq? i n) (λ u. sum-bump h k n i u (λ j v d.
     go (inr q) ih =
         let z : sum k n ≡ sum h n + 1 = ih (omega arith) in
         omega (arith, e n (omega arith) (λ d. q (omega arith)))
+
+-- no term is more than k
+pub sum-bound : (h : ℕ → ℕ) (k : ℕ) → ((j : ℕ) → h j ≤ k) → (n : ℕ) → sum h n ≤ k * n
+unfolding sum
+sum-bound h k l zero = omega arith
+sum-bound h k l (suc n) = omega (arith, l n, sum-bound h k l n)
+
+pub count-bound : (q : ℕ → Bool) (n : ℕ) → count q n ≤ n
+unfolding count
+count-bound q n = omega (arith, sum-bound (λ j. bit (q j)) 1 (λ j. one (q j)) n)
+  where
+    one : (b : Bool) → bit b ≤ 1
+    one true = omega arith
+    one false = omega arith

@@ -6,3 +6,5 @@ pub mod Count
 pub mod Lists
 pub mod Neighbours
 pub mod Links
+pub mod AllBelow
+pub mod Pigeonhole

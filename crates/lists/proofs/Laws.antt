@@ -41,11 +41,11 @@ same-field g f p l e q = go (eq? q p)
     go (inr d) = rw (upd-other f p l q d)
 
 module _ (I : Image) where
-  next-page : (q : ℕ) → q < noPage → nextOf I q ≡ I .links q .next .0
+  pub next-page : (q : ℕ) → q < noPage → nextOf I q ≡ I .links q .next .0
   unfolding nextOf pick
   next-page q h = rw (lt-ltb q noPage h)
 
-  next-head : (list : ℕ) → nextOf I (head list) ≡ firstIn I list
+  pub next-head : (list : ℕ) → nextOf I (head list) ≡ firstIn I list
   unfolding nextOf pick
   next-head list =
       let e : noPage + list - noPage ≡ list = omega arith in

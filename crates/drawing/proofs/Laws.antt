@@ -1,0 +1,196 @@
+-- The laws of `specs/Claim.antt`, proved. Assumes nothing.
+use mathlib.Core.Path.{_≡_, refl, sym, ap, _∙_}
+use mathlib.Core.Logic.{_↔_}
+use mathlib.Core.Bool.{Bool, true, false}
+use mathlib.Core.List.{List}
+use Prim.Native.Nat.{ℕ, suc, _≤_, _<_}
+use native.Mathlib.Omega.{arith}
+use lib.ListN.{length}
+use Rattle.base.specs.Tests.{pick}
+use Rattle.base.proofs.AllBelow.{pick-yes, pick-same}
+use Rattle.words.specs.Word.{Bytes}
+use Rattle.records.specs.Layout.{noPage}
+use Rattle.model.specs.State.{State}
+use Rattle.model.specs.Calls.{Call, fresh, step}
+use Rattle.model.proofs.Fresh.{fresh-well}
+use Rattle.model.proofs.Steps.{step-kept}
+use Rattle.image.proofs.Paint.{Same, paint-ext}
+use Rattle.format.specs.Format.{shortest, tooLong, formatted}
+use Rattle.rules.specs.Fields.{Fields}
+use Rattle.rules.specs.Read.{readFields}
+use Rattle.rules.specs.Drawn.{stateImage, stateFields}
+use Rattle.rules.specs.Bytes.{pagesIn, imageOf, fieldsOf, rule1, brokenRule, read}
+use Rattle.rules.specs.Agree.{Agree, Holds}
+use Rattle.rules.proofs.Agree.{agree-rule2, agree-rule3, agree-rule4, agree-rule5, agree-rule6, agree-read}
+use Rattle.rules.proofs.Rule2.{rule2-says}
+use Rattle.rules.proofs.Well.{fields-well}
+use Rattle.rules.proofs.Holds.{state-holds, state-read}
+use Rattle.rules.proofs.Drawn.{fields-drawn}
+use Rattle.drawing.specs.Draw.{draw}
+use Rattle.drawing.specs.Noise.{SameRecords}
+use Rattle.drawing.specs.Claim.{Fitting, Laws, Claims}
+use Rattle.drawing.proofs.Records.{rule1-says, paint-back}
+use Rattle.drawing.proofs.Encoding.{fields-bounds, mapped-read}
+use Rattle.drawing.proofs.Drawn.{length-drawn, drawn-kept, pages-drawn, drawn-keeps, rule1-drawn, drawn-shows}
+use Rattle.drawing.proofs.Noise.{pages-same, fields-same, rule1-same}
+use Rattle.drawing.proofs.Over.{draw-over, draw-again}
+use Rattle.drawing.proofs.Format.{formatted-drawn}
+
+-- ---- the first rule that does not hold
+
+passes : (t : Bool) (x k : ℕ) → pick t x (suc k) ≡ 0 → (t ≡ true) × (x ≡ 0)
+unfolding pick
+passes true x k e = (refl, e)
+passes false x k e = absurd (omega arith)
+
+pub none-broken : (w : ℕ) (s : List ℕ) → brokenRule w s ≡ 0 → (rule1 w s ≡ true) × Holds (fieldsOf w s) (pagesIn w s)
+unfolding brokenRule
+none-broken w s e =
+    let a = passes _ _ 0 e in
+    let b = passes _ _ 1 (a .1) in
+    let c = passes _ _ 2 (b .1) in
+    let d = passes _ _ 3 (c .1) in
+    let f = passes _ _ 4 (d .1) in
+    let g = passes _ _ 5 (f .1) in
+    (a .0, record { two = b .0; three = c .0; four = d .0; five = f .0; six = g .0 })
+
+all-hold : (w : ℕ) (s : List ℕ) → rule1 w s ≡ true → Holds (fieldsOf w s) (pagesIn w s) → brokenRule w s ≡ 0
+unfolding brokenRule
+all-hold w s e H =
+    pick-yes _ _ _ e ∙ pick-yes _ _ _ (H .two) ∙ pick-yes _ _ _ (H .three) ∙ pick-yes _ _ _ (H .four) ∙ pick-yes _ _ _ (H .five)
+    ∙ pick-yes _ _ _ (H .six)
+
+agree-holds : {n : ℕ} {v u : Fields} → n ≤ noPage → Agree n v u → Holds u n → Holds v n
+agree-holds few A H = record {
+  two = agree-rule2 few A ∙ H .two;
+  three = agree-rule3 few A ∙ H .three;
+  four = agree-rule4 few A ∙ H .four;
+  five = agree-rule5 few A ∙ H .five;
+  six = agree-rule6 few A ∙ H .six;
+}
+
+module _ (w : ℕ) (wide : 2 ≤ w) (narrow : w ≤ 255) (s : List ℕ) (B : Bytes s) where
+  -- ---- sound bytes
+
+  some-pages : rule1 w s ≡ true → 1 ≤ pagesIn w s
+  some-pages e = omega (arith, rule1-says w s e .some)
+
+  few-pages : rule1 w s ≡ true → pagesIn w s ≤ noPage
+  few-pages e = omega (arith, rule1-says w s e .few)
+
+  sound-fits : brokenRule w s ≡ 0 → Fitting w s (read w s)
+  sound-fits e =
+      let (one, H) = none-broken w s e in
+      unfold read readFields in
+      record { well = fields-well (some-pages one) (few-pages one) H (fields-bounds w s B); size = refl; few = rule1-says w s one .few }
+
+  sound-drawn : brokenRule w s ≡ 0 → draw w s (read w s) ≡ s
+  unfolding draw read readFields
+  sound-drawn e =
+      let (one, H) = none-broken w s e in
+      rw (mapped-read w s B)
+      (sym (paint-ext w (pagesIn w s) (imageOf w s) (stateImage (read w s)) s (image one H))
+      ∙ paint-back w s B (rule1-says w s one) (λ p h. unfold fieldsOf in rule2-says (fieldsOf w s) (pagesIn w s) (H .two) .spare p h))
+    where
+      image : rule1 w s ≡ true → Holds (fieldsOf w s) (pagesIn w s) → Same (pagesIn w s) (imageOf w s) (stateImage (read w s))
+      image one H = unfold stateFields fieldsOf in fields-drawn (some-pages one) (few-pages one) H (fields-bounds w s B) .image-same
+
+  -- ---- drawings
+
+  module _ (m : State) (F : Fitting w s m) where
+    few : m .size ≤ noPage
+    few = omega (arith, F .few)
+
+    small : m .size ≤ 4096
+    small = omega (arith, F .few)
+
+    shows : Agree (m .size) (fieldsOf w (draw w s m)) (stateFields m)
+    shows = drawn-shows w wide s m (F .size) narrow (F .well) small B
+
+    holds : Holds (fieldsOf w (draw w s m)) (m .size)
+    holds = agree-holds few shows (state-holds (F .well) few)
+
+    drawn-bytes : Bytes (draw w s m)
+    drawn-bytes = drawn-keeps w wide s m (F .size) narrow (F .well) small B
+
+    drawn-sound : brokenRule w (draw w s m) ≡ 0
+    drawn-sound =
+        all-hold w (draw w s m) (rule1-drawn w wide s m (F .size) narrow (F .well) small (F .few))
+        (rw (pages-drawn w wide s m (F .size)) holds)
+
+    drawn-read : read w (draw w s m) ≡ m
+    unfolding read
+    drawn-read =
+        rw (pages-drawn w wide s m (F .size)) (agree-read few shows (holds .two) (holds .three) (holds .four) ∙ state-read (F .well) few)
+
+  sound-iff : (brokenRule w s ≡ 0) ↔ ((m : State) × Fitting w s m × (draw w s m ≡ s))
+  sound-iff = (λ e. (read w s, sound-fits e, sound-drawn e), λ (m, F, e). ap (brokenRule w) (sym e) ∙ drawn-sound m F)
+
+  -- ---- callers' bytes
+
+  module _ (t : List ℕ) (S : SameRecords w s t) where
+    noise-rule : brokenRule w s ≡ brokenRule w t
+    unfolding brokenRule
+    noise-rule =
+        let A = fields-same w wide s t S in
+        pick-same _ _ (rule1-same w wide s t S)
+        (λ e.
+        let few = few-pages e in
+        rw (
+          ← pages-same w wide s t S,
+          agree-rule2 few A,
+          agree-rule3 few A,
+          agree-rule4 few A,
+          agree-rule5 few A,
+          agree-rule6 few A,
+        ))
+        (λ e. refl)
+
+    noise-read : brokenRule w s ≡ 0 → read w s ≡ read w t
+    unfolding read
+    noise-read e =
+        let (one, H) = none-broken w s e in
+        agree-read (few-pages one) (fields-same w wide s t S) (H .two) (H .three) (H .four)
+        ∙ ap (readFields (fieldsOf w t)) (pages-same w wide s t S)
+
+  -- ---- calls
+
+  fresh-fits : shortest w ≤ length s → length s < tooLong w → Fitting w s (fresh (pagesIn w s))
+  fresh-fits some most =
+      record { well = fresh-well (pagesIn w s) (omega arith); size = unfold fresh in refl; few = unfold fresh in omega arith }
+
+  module _ (some : shortest w ≤ length s) (most : length s < tooLong w) where
+    format-sound : brokenRule w (formatted w s) ≡ 0
+    format-sound = ap (brokenRule w) (formatted-drawn w s some most) ∙ drawn-sound (fresh (pagesIn w s)) (fresh-fits some most)
+
+    format-read : read w (formatted w s) ≡ fresh (pagesIn w s)
+    format-read = ap (read w) (formatted-drawn w s some most) ∙ drawn-read (fresh (pagesIn w s)) (fresh-fits some most)
+
+  next-fits : (m : State) → Fitting w s m → (call : Call) → Fitting w s (step m call .after)
+  next-fits m F call =
+      let K = step-kept m (F .well) call in
+      record { well = K .well; size = K .size ∙ F .size; few = omega (arith, K .size, F .few) }
+
+  laws : Laws w s
+  laws = record {
+    sound-fits = sound-fits;
+    sound-drawn = sound-drawn;
+    drawn-sound = drawn-sound;
+    drawn-read = drawn-read;
+    sound-iff = sound-iff;
+    drawn-length = length-drawn w wide s;
+    drawn-bytes = drawn-bytes;
+    drawn-kept = drawn-kept w wide s;
+    drawn-over = draw-over w wide s;
+    drawn-again = draw-again w wide s;
+    noise-rule = noise-rule;
+    noise-read = noise-read;
+    format-drawn = formatted-drawn w s;
+    format-sound = format-sound;
+    format-read = format-read;
+    fresh-fits = fresh-fits;
+    next-fits = next-fits;
+  }
+
+pub claims : Claims
+claims = laws

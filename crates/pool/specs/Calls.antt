@@ -1,0 +1,41 @@
+-- What alloc (document 01: take) and free (give) answer and leave, for every content of the slice. Assumes nothing.
+use Prim.Native.Nat.{ℕ, _/_, _%_}
+use mathlib.Core.Bool.{Bool, false, cond}
+use mathlib.Core.List.{List}
+use lib.Dec.{eqb}
+use Rattle.base.specs.Tests.{pick}
+use Rattle.answers.specs.Outcome.{Outcome, granted, refused}
+use Rattle.answers.specs.declared.Refusal.the-variants.{NotSound}
+use Rattle.bitmaps.specs.Bitmap.{withMark}
+use Rattle.model.specs.Classes.{chunk, startsChunk}
+use Rattle.model.specs.State.{Page, idle, slab, taken, inside, edge, State}
+use Rattle.model.specs.Calls.{Call, Alloc, Free, Answer, at, freed, no, step}
+use Rattle.rules.specs.Bytes.{pagesIn, mapBase, brokenRule, read}
+use Rattle.drawing.specs.Draw.{draw}
+
+-- the model's answer in document 01's terms; a free tells no value
+abbrev pub outcome : Answer → Outcome
+outcome (at off) = granted off
+outcome (freed n) = granted 0
+outcome (no k) = record { number = k; value = 0 }
+
+-- unsound records are refused with 3; on sound ones the model answers
+unfoldable pub answered : ℕ → List ℕ → Call → Outcome
+answered w s call = pick (eqb (brokenRule w s) 0) (outcome (step (read w s) call .answer)) (refused NotSound)
+
+-- A chunk that is freed has its mark cleared before its page may be released, and the mark stays cleared in the page's bytes.
+unfoldable pub clearedAt : ℕ → List ℕ → ℕ → ℕ → Page → List ℕ
+clearedAt w s p q idle = s
+clearedAt w s p q (slab c m) =
+    cond (startsChunk c q) (cond (m (q / chunk c)) (withMark s (mapBase w (pagesIn w s) p c) (q / chunk c) false) s) s
+clearedAt w s p q (taken n) = s
+clearedAt w s p q inside = s
+clearedAt w s p q edge = s
+
+unfoldable pub cleared : ℕ → List ℕ → Call → List ℕ
+cleared w s (Alloc n) = s
+cleared w s (Free off) = clearedAt w s (off / 4096) (off % 4096) (read w s .page (off / 4096))
+
+-- unsound records stay as they are; on sound ones the model's next state is drawn
+unfoldable pub after : ℕ → List ℕ → Call → List ℕ
+after w s call = pick (eqb (brokenRule w s) 0) (draw w (cleared w s call) (step (read w s) call .after)) s

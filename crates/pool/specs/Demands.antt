@@ -1,0 +1,131 @@
+-- The three demands on the bytes of a pool, each citing definitions only.
+use mathlib.Core.Path.{_≡_}
+use mathlib.Core.Logic.{_↔_, _≢_}
+use mathlib.Core.Bool.{Bool, true, false}
+use mathlib.Core.List.{List, [], _∷_}
+use Prim.Native.Nat.{ℕ, _+_, _*_, _≤_, _<_}
+use lib.Dec.{eqb}
+use lib.ListN.{length, getD}
+use Rattle.base.specs.Tests.{pick}
+use Rattle.base.specs.Lists.{Mem, NoDup, keep}
+use Rattle.words.specs.Word.{Bytes}
+use Rattle.records.specs.Layout.{pagesFrom}
+use Rattle.answers.specs.Outcome.{Outcome, refused}
+use Rattle.answers.specs.declared.Refusal.the-variants.{NotSound}
+use Rattle.model.specs.Classes.{Need, chunkOf, pages, needOf}
+use Rattle.model.specs.State.{State}
+use Rattle.model.specs.Calls.{Call, Alloc, Free, tallied, step}
+use Rattle.model.specs.Live.{Block, offset, extent, Disjoint, Live, blockFor, elsewhere}
+use Rattle.model.specs.View.{View}
+use Rattle.model.specs.Expected.{expected}
+use Rattle.model.specs.Ruling.{Verdict, granted as allowed, refused as denied, clearIn, pageIn, runIn, ruling}
+use Rattle.model.specs.Claim.{BlocksPlaced}
+use Rattle.format.specs.Format.{shortest, tooLong, formatted}
+use Rattle.rules.specs.Bytes.{pagesIn, brokenRule, read}
+use Rattle.drawing.specs.Draw.{inMap, draw}
+use Rattle.drawing.specs.Noise.{SameRecords}
+use Rattle.pool.specs.Calls.{outcome, answered, after}
+use Rattle.pool.specs.Shown.{shownBy}
+
+-- the number that a verdict has in an answer: 0 where the call is granted
+abbrev pub numberIn : Verdict → ℕ
+numberIn allowed = 0
+numberIn (denied k) = k
+
+-- ---- demand 1: every call answers; refusals change nothing
+
+-- the pages of a pool that shows the state m; where the pages begin
+abbrev pub liveIn : ℕ → List ℕ → Block → Type 0
+liveIn w s e = Live (read w s .page) e
+
+pub record Demand1 (w : ℕ) (s : List ℕ) : Type 0 where
+  -- the slice keeps its length and holds bytes
+  pub length-kept : (call : Call) → length (after w s call) ≡ length s
+  pub bytes-kept : (call : Call) → Bytes (after w s call)
+  -- unsound records are refused with 3 and nothing changes
+  pub unsound : brokenRule w s ≢ 0 → (call : Call) → (answered w s call ≡ refused NotSound) × (after w s call ≡ s)
+  -- a refused call leaves the slice as it was, but for the tally of a refused chunk
+  pub refused-run : (n k : ℕ) → needOf n ≡ pages k → answered w s (Alloc n) .number ≢ 0 → after w s (Alloc n) ≡ s
+  pub refused-chunk : (n c : ℕ) → brokenRule w s ≡ 0 → needOf n ≡ chunkOf c → answered w s (Alloc n) .number ≢ 0 →
+      after w s (Alloc n) ≡ draw w s (tallied (read w s) c)
+  pub refused-free : (off : ℕ) → answered w s (Free off) .number ≢ 0 → after w s (Free off) ≡ s
+  -- a free is granted exactly where a live block begins, and else refused by the table's number
+  pub free-granted : (off : ℕ) → brokenRule w s ≡ 0 → (answered w s (Free off) .number ≡ 0) ↔ ((e : Block) × liveIn w s e × (offset e ≡ off))
+  pub free-number : (off : ℕ) → brokenRule w s ≡ 0 → answered w s (Free off) .number ≡ numberIn (ruling (shownBy w s) (Free off))
+
+-- ---- demand 2: on sound records
+
+pub record Demand2 (w : ℕ) (s : List ℕ) (sound : brokenRule w s ≡ 0) : Type 0 where
+  -- the call's answer and next state are the model's: same offset, lists, counts
+  pub sound-after : (call : Call) → brokenRule w (after w s call) ≡ 0
+  pub answer : (call : Call) → answered w s call ≡ outcome (step (read w s) call .answer)
+  pub state : (call : Call) → read w (after w s call) ≡ step (read w s) call .after
+  -- refused for room exactly when there is none
+  pub no-chunk : (n c : ℕ) → needOf n ≡ chunkOf c → (answered w s (Alloc n) .number ≡ 4) ↔ ((clearIn (shownBy w s) c ≡ false) × (pageIn (shownBy w s) ≡ false))
+  pub no-run : (n k : ℕ) → needOf n ≡ pages k → (answered w s (Alloc n) .number ≡ 4) ↔ (runIn (shownBy w s) k ≡ false)
+  -- live blocks overlap neither each other nor the maps, and lie in the pages, past the records
+  pub placed : BlocksPlaced (read w s)
+  -- no byte of a block that is live before and after the call changes
+  pub untouched : (call : Call) (e : Block) → liveIn w s e → liveIn w (after w s call) e → (i : ℕ) → offset e ≤ i → i < offset e + extent e →
+      getD (after w s call) (pagesFrom w (pagesIn w s) + i) 0 ≡ getD s (pagesFrom w (pagesIn w s) + i) 0
+  -- no byte outside header, records and maps changes
+  pub outside : (call : Call) (i : ℕ) → pagesFrom w (pagesIn w s) ≤ i → inMap (pagesFrom w (pagesIn w s)) (read w s) i ≡ false →
+      inMap (pagesFrom w (pagesIn w s)) (read w (after w s call)) i ≡ false → getD (after w s call) i 0 ≡ getD s i 0
+
+-- ---- demand 3: one claim about the whole list
+
+-- a call, and what the slice holds when it is made: callers' bytes and the tail may have become any others
+pub record Turn : Type 0 where
+  pub bytes : List ℕ
+  pub call : Call
+
+-- the live set (document 01: the book) after a call, from its argument and its answer alone
+unfoldable pub fed : List Block → Call → Outcome → List Block
+fed B (Alloc n) o = pick (eqb (o .number) 0) (blockFor (needOf n) (o .value) ∷ B) B
+fed B (Free off) o = pick (eqb (o .number) 0) (keep (elsewhere off) B) B
+
+-- header, records and maps are as the last call left them
+abbrev pub Allowed : ℕ → List ℕ → List Turn → Type 0
+Allowed w s [] = Unit {0}
+Allowed w s (t ∷ ts) = SameRecords w s (t .bytes) × Bytes (t .bytes) × Allowed w (after w (t .bytes) (t .call)) ts
+
+-- the slice and the live set after a list of turns
+abbrev pub played : ℕ → List ℕ → List Turn → List ℕ
+played w s [] = s
+played w s (t ∷ ts) = played w (after w (t .bytes) (t .call)) ts
+
+abbrev pub book : ℕ → List Block → List Turn → List Block
+book w B [] = B
+book w B (t ∷ ts) = book w (fed B (t .call) (answered w (t .bytes) (t .call))) ts
+
+-- a granted alloc overlaps no block of the live set
+unfoldable pub Apart : List Block → Call → Outcome → Type 0
+Apart B (Alloc n) o = o .number ≡ 0 → (e : Block) → Mem e B → Disjoint (blockFor (needOf n) (o .value)) e
+Apart B (Free off) o = Unit {0}
+
+-- a pool of P pages with the live set B
+pub record Faithful (w P : ℕ) (B : List Block) (s : List ℕ) : Type 0 where
+  pub sound : brokenRule w s ≡ 0
+  pub size : pagesIn w s ≡ P
+  -- the five: free runs, class pages, maps, used and total are those of the expected view (document 01: the picture)
+  pub view : shownBy w s ≡ expected P B
+  pub once : NoDup B
+  pub live : (e : Block) → Mem e B ↔ liveIn w s e
+  -- the next call
+  pub apart : (call : Call) → Apart B call (answered w s call)
+  pub ruled : (call : Call) → answered w s call .number ≡ numberIn (ruling (expected P B) call)
+
+-- from what format leaves of any slice that it accepts
+abbrev pub Demand3 : ℕ → List ℕ → Type 0
+Demand3 w s = shortest w ≤ length s → length s < tooLong w → (ts : List Turn) → Allowed w (formatted w s) ts →
+    (u : List ℕ) → SameRecords w (played w (formatted w s) ts) u → Bytes u → Faithful w (pagesIn w s) (book w [] ts) u
+
+-- ---- all of them, over the class record's width
+
+pub record Demands (w : ℕ) (s : List ℕ) : Type 0 where
+  pub demand1 : Demand1 w s
+  pub demand2 : (sound : brokenRule w s ≡ 0) → Demand2 w s sound
+  pub demand3 : Demand3 w s
+
+abbrev pub Claims : Type 0
+Claims = (w : ℕ) → 2 ≤ w → w ≤ 255 → (s : List ℕ) → Bytes s → Demands w s

@@ -1,0 +1,11 @@
+pub mod Linked
+pub mod Pages
+pub mod Agree
+pub mod Rule2
+pub mod Rules
+pub mod Well
+pub mod Runs
+pub mod Shown
+pub mod Holds
+pub mod Drawn
+pub mod Fits

@@ -1,0 +1,49 @@
+-- What the records of a pool show, field by field. Rules 2 to 6 speak of it and see no byte. Assumes nothing.
+use Prim.Native.Nat.{ℕ, zero, suc}
+use mathlib.Core.Bool.{Bool}
+use lib.Dec.{ltb}
+use Rattle.base.specs.Tests.{pick}
+use Rattle.model.specs.State.{Page, idle, slab, taken, inside, edge}
+use Rattle.image.specs.Image.{Image}
+
+-- the records; the nine zero bits of page p's record; mark i of page p, wherever its map lies
+pub record Fields : Type 0 where
+  pub image : Image
+  pub spare : ℕ → ℕ
+  pub mark : ℕ → ℕ → Bool
+
+-- of page p
+abbrev pub kind : Fields → ℕ → ℕ
+kind v p = v .image .links p .kind
+
+abbrev pub class : Fields → ℕ → ℕ
+class v p = v .image .links p .class
+
+abbrev pub run : Fields → ℕ → ℕ
+run v p = v .image .links p .run
+
+abbrev pub next : Fields → ℕ → ℕ
+next v p = v .image .links p .next .0
+
+abbrev pub prev : Fields → ℕ → ℕ
+prev v p = v .image .links p .prev .0
+
+abbrev pub map : Fields → ℕ → ℕ
+map v p = v .image .map p
+
+-- of class c
+abbrev pub first : Fields → ℕ → ℕ
+first v c = v .image .class c .first .0
+
+-- what a page is, by its kind
+abbrev pub pageOf : ℕ → ℕ → ℕ → (ℕ → Bool) → Page
+pageOf zero class run mark = idle
+pageOf (suc zero) class run mark = idle
+pageOf (suc (suc zero)) class run mark = slab class mark
+pageOf (suc (suc (suc zero))) class run mark = taken run
+pageOf (suc (suc (suc (suc zero)))) class run mark = inside
+pageOf (suc (suc (suc (suc (suc k))))) class run mark = edge
+
+-- page p of n
+unfoldable pub pageAt : Fields → ℕ → ℕ → Page
+pageAt v n p = pick (ltb p n) (pageOf (kind v p) (class v p) (run v p) (v .mark p)) edge

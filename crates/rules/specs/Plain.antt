@@ -1,0 +1,122 @@
+-- Rules 2 to 6 of document 01 on the fields v of n pages, in plain form. Assumes nothing.
+-- `Rules.antt` has them as tests; `rule2-iff` (proofs/Rule2.antt) to `rule6-iff` (proofs/Rules.antt) say that both are the same.
+use mathlib.Core.Path.{_≡_}
+use mathlib.Core.Bool.{Bool, true, false, _&&_}
+use mathlib.Core.List.{List}
+use Prim.Native.Nat.{ℕ, _+_, _-_, _*_, _%_, _^_, _≤_, _<_}
+use lib.Dec.{eqb, leb}
+use Rattle.base.specs.Count.{sum, count}
+use Rattle.base.specs.Lists.{Mem, NoDup}
+use Rattle.base.specs.Links.{headOr, nextIn, prevFrom}
+use Rattle.records.specs.Layout.{noPage}
+use Rattle.model.specs.Classes.{chunks, own, counted}
+use Rattle.rules.specs.Fields.{Fields, kind, class, run, next, prev, map, first}
+
+-- ---- rule 2: the pages divide into free runs, taken runs and class pages; no two free runs touch; the maps' own chunks are marked;
+-- fields are as described, but for next and previous in kinds 1 and 2
+
+-- a run begins with page p: its other pages are of kind `inner`, and it ends within the n pages
+pub record RunFits (v : Fields) (n inner p : ℕ) : Type 0 where
+  pub some-page : 1 ≤ run v p
+  pub within : p + run v p ≤ n
+  pub each : (j : ℕ) → p < j → j < p + run v p → kind v j ≡ inner
+
+-- page p lies in a run whose first page, another, is of kind `head`
+unfoldable pub LiesIn : Fields → ℕ → ℕ → ℕ → Type 0
+LiesIn v n head p = (q : ℕ) × (q < n) × (kind v q ≡ head) × (q < p) × (p < q + run v q)
+
+-- kind 0: inside a free run; only the run's last page has a previous
+pub record InsideFree (v : Fields) (n p : ℕ) : Type 0 where
+  pub no-class : class v p ≡ 0
+  pub no-run : run v p ≡ 0
+  pub no-map : map v p ≡ 0
+  pub no-next : next v p ≡ noPage
+  pub lies : LiesIn v n 1 p
+  pub no-prev : p + 1 < n → kind v (p + 1) ≡ 0 → prev v p ≡ noPage
+
+-- kind 1: first of a free run, which no free run touches, and whose last page, if another, leads back
+pub record FirstFree (v : Fields) (n p : ℕ) : Type 0 where
+  pub no-class : class v p ≡ 0
+  pub no-map : map v p ≡ 0
+  pub fits : RunFits v n 0 p
+  pub apart : p + run v p < n → 1 < kind v (p + run v p)
+  pub back : 1 < run v p → prev v (p + run v p - 1) ≡ p
+
+-- kind 2: class page; its map's own chunks are marked; the map field is 0 where the map lies in the page, else its unused low bits are
+pub record ClassPage (v : Fields) (p : ℕ) : Type 0 where
+  pub in-range : class v p ≤ 8
+  pub no-run : run v p ≡ 0
+  pub own-set : (i : ℕ) → i < own (class v p) → v .mark p i ≡ true
+  pub map-small : class v p < 3 → map v p ≡ 0
+  pub map-large : 3 ≤ class v p → map v p % 2 ^ (64 - chunks (class v p)) ≡ 0
+
+-- kind 3: first of a taken run
+pub record FirstTaken (v : Fields) (n p : ℕ) : Type 0 where
+  pub no-class : class v p ≡ 0
+  pub no-map : map v p ≡ 0
+  pub no-next : next v p ≡ noPage
+  pub no-prev : prev v p ≡ noPage
+  pub fits : RunFits v n 4 p
+
+-- kind 4: inside a taken run
+pub record InsideTaken (v : Fields) (n p : ℕ) : Type 0 where
+  pub no-class : class v p ≡ 0
+  pub no-run : run v p ≡ 0
+  pub no-map : map v p ≡ 0
+  pub no-next : next v p ≡ noPage
+  pub no-prev : prev v p ≡ noPage
+  pub lies : LiesIn v n 3 p
+
+pub record Rule2 (v : Fields) (n : ℕ) : Type 0 where
+  pub spare : (p : ℕ) → p < n → v .spare p ≡ 0
+  pub kinds : (p : ℕ) → p < n → kind v p ≤ 4
+  pub kind0 : (p : ℕ) → p < n → kind v p ≡ 0 → InsideFree v n p
+  pub kind1 : (p : ℕ) → p < n → kind v p ≡ 1 → FirstFree v n p
+  pub kind2 : (p : ℕ) → p < n → kind v p ≡ 2 → ClassPage v p
+  pub kind3 : (p : ℕ) → p < n → kind v p ≡ 3 → FirstTaken v n p
+  pub kind4 : (p : ℕ) → p < n → kind v p ≡ 4 → InsideTaken v n p
+
+-- ---- rules 3 and 4: a list holds each page that belongs on it once and ends; previous leads back
+
+-- the list L holds each page with the property Good once; it is entered at h, next leads along it to no page, previous leads back
+pub record Lists (Good : ℕ → Type 0) (nx pv : ℕ → ℕ) (h : ℕ) (L : List ℕ) : Type 0 where
+  pub once : NoDup L
+  pub holds : (p : ℕ) → Mem p L → Good p
+  pub all : (p : ℕ) → Good p → Mem p L
+  pub entry : h ≡ headOr noPage L
+  pub nexts : (p : ℕ) → Mem p L → nx p ≡ nextIn noPage p L
+  pub prevs : (p : ℕ) → Mem p L → pv p ≡ prevFrom noPage noPage p L
+
+-- first page of a free run
+unfoldable pub Head : Fields → ℕ → ℕ → Type 0
+Head v n p = (p < n) × (kind v p ≡ 1)
+
+-- class page of class c with a free chunk
+unfoldable pub Open : Fields → ℕ → ℕ → ℕ → Type 0
+Open v n c p = (p < n) × (kind v p ≡ 2) × (class v p ≡ c) × (i : ℕ) × (i < chunks c) × (v .mark p i ≡ false)
+
+-- from the header: each free run
+unfoldable pub Rule3 : Fields → ℕ → Type 0
+Rule3 v n = (L : List ℕ) × Lists (Head v n) (next v) (prev v) (v .image .firstRun) L
+
+-- from each class record: each page of that class with a free chunk; a full page is on no list and has no links
+pub record Rule4 (v : Fields) (n : ℕ) : Type 0 where
+  pub lists : (c : ℕ) → c < 9 → (L : List ℕ) × Lists (Open v n c) (next v) (prev v) (first v c) L
+  pub full : (p : ℕ) → p < n → kind v p ≡ 2 → ¬ Open v n (class v p) p → (next v p ≡ noPage) × (prev v p ≡ noPage)
+
+-- ---- rule 5: each class page has at least one chunk in a caller's hands
+
+unfoldable pub Rule5 : Fields → ℕ → Type 0
+Rule5 v n = (p : ℕ) → p < n → kind v p ≡ 2 → (i : ℕ) × (own (class v p) ≤ i) × (i < chunks (class v p)) × (v .mark p i ≡ true)
+
+-- ---- rule 6: free pages are counted, each class's used is its marked chunks other than the maps' own, and total is its pages times the
+-- chunks that count
+
+-- page p is of class c
+unfoldable pub ofClass : Fields → ℕ → ℕ → Bool
+ofClass v c p = eqb (kind v p) 2 && eqb (class v p) c
+
+pub record Rule6 (v : Fields) (n : ℕ) : Type 0 where
+  pub free-pages : v .image .freePages ≡ count (λ p. leb (kind v p) 1) n
+  pub used : (c : ℕ) → c < 9 → v .image .class c .used ≡ sum (λ p. count (λ i. leb (own c) i && (ofClass v c p && v .mark p i)) (chunks c)) n
+  pub total : (c : ℕ) → c < 9 → v .image .class c .total ≡ count (ofClass v c) n * counted c
