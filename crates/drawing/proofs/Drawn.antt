@@ -35,7 +35,8 @@ use Rattle.rules.specs.Fields.{class}
 use Rattle.rules.proofs.Shown.{slab-is}
 use Rattle.rules.proofs.Fits.{state-fits}
 use Rattle.drawing.specs.Draw.{inMap, mapped, draw}
-use Rattle.drawing.proofs.Mapped.{small-chunks, large-chunks, length-mapped, mapped-kept, mapped-keeps, mapped-map}
+use Rattle.model.proofs.Classes.{small-chunks, large-chunks}
+use Rattle.drawing.proofs.Mapped.{length-mapped, mapped-kept, mapped-keeps, mapped-map}
 use Rattle.drawing.proofs.Encoding.{mark-past, mark-paged, mark-recorded}
 use Rattle.drawing.proofs.Records.{paint-keeps, rule1-holds}
 

@@ -28,7 +28,8 @@ use Rattle.rules.specs.Read.{readFields}
 use Rattle.rules.specs.Bytes.{pagesIn, mapBase, markAt, imageOf, fieldsOf, read}
 use Rattle.rules.specs.Agree.{Bounds}
 use Rattle.drawing.specs.Draw.{mapHas, mapByte, mapped}
-use Rattle.drawing.proofs.Mapped.{small-chunks, large-chunks, mapped-is}
+use Rattle.model.proofs.Classes.{small-chunks, large-chunks}
+use Rattle.drawing.proofs.Mapped.{mapped-is}
 
 -- ---- numbers put together from marks
 

@@ -6,7 +6,6 @@ use mathlib.Core.List.{List}
 use Prim.Native.Nat.{ℕ, zero, suc, _+_, _-_, _*_, _/_, _%_, _≤_, _<_}
 use native.Mathlib.Omega.{arith}
 use lib.Dec.{lit<}
-use lib.Pow.{pow-mono}
 use lib.ListN.{length, getD, List·getD-eq-default}
 use lib.Seq.{ext-getD}
 use borrow.Author.Tests.{lt-ltb, le-ltb}
@@ -15,6 +14,7 @@ use Rattle.base.proofs.Cases.{lt?, bool?, clash}
 use Rattle.words.specs.Word.{Bytes}
 use Rattle.records.specs.Layout.{pagesFrom}
 use Rattle.model.specs.Classes.{chunks}
+use Rattle.model.proofs.Classes.{small-chunks, large-chunks}
 use Rattle.model.specs.State.{slab, State}
 use Rattle.bitmaps.specs.Bitmap.{bitsOf}
 use Rattle.bitmaps.proofs.Bits.{byte-small}
@@ -33,19 +33,6 @@ module _ {A : Type 0} where
   getD-tab (suc n) h (suc i) d l = getD-tab n (λ k. h (suc k)) i d (omega arith)
 
 -- ---- the chunks of a class
-
--- a map in the page is a whole number of bytes, at most 64
-pub small-chunks : (c : ℕ) → c < 3 → (d : ℕ) × (chunks c ≡ 8 * d) × (d ≤ 64)
-unfolding chunks
-small-chunks zero h = (64, refl, omega arith)
-small-chunks (suc zero) h = (32, refl, omega arith)
-small-chunks (suc (suc zero)) h = (16, refl, omega arith)
-small-chunks (suc (suc (suc c))) h = absurd (omega arith)
-
--- a map in the record has at most 64 marks
-pub large-chunks : (c : ℕ) → 3 ≤ c → chunks c ≤ 64
-unfolding chunks
-large-chunks c h = pow-mono {i = 9 - c} {j = 6} (omega arith)
 
 -- ---- where the maps lie
 

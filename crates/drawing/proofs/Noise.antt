@@ -21,7 +21,7 @@ use Rattle.rules.specs.Fields.{class}
 use Rattle.rules.specs.Bytes.{pagesIn, markAt, imageOf, fieldsOf, rule1}
 use Rattle.rules.specs.Agree.{Agree}
 use Rattle.drawing.specs.Noise.{SameRecords}
-use Rattle.drawing.proofs.Mapped.{large-chunks}
+use Rattle.model.proofs.Classes.{large-chunks}
 use Rattle.drawing.proofs.Encoding.{mark-past, mark-paged, mark-recorded}
 
 module _ (w : ℕ) (wide : 2 ≤ w) (s t : List ℕ) (S : SameRecords w s t) where

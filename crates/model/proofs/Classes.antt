@@ -2,11 +2,11 @@
 use mathlib.Core.Path.{_≡_, refl}
 use mathlib.Core.Logic.{_⊎_, inl, inr, _≢_}
 use mathlib.Core.Bool.{Bool, true, false, cond, _&&_, not}
-use Prim.Native.Nat.{ℕ, _+_, _*_, _/_, _%_, _≤_, _<_}
+use Prim.Native.Nat.{ℕ, zero, suc, _+_, _-_, _*_, _/_, _%_, _≤_, _<_}
 use native.Mathlib.Nat.{mul-le-mul-left, div-add-mod', mul-div-right, mul-mod-right}
 use native.Mathlib.Omega.{arith}
 use lib.Dec.{eqb, leb, ltb}
-use lib.Pow.{pow-pos}
+use lib.Pow.{pow-pos, pow-mono}
 use borrow.Author.Tests.{ltb-true, leb-true, leb-false, eqb-true, not-true, not-false, le-leb, eq-eqb, ne-eqb}
 use Rattle.base.specs.Search.{least, any}
 use Rattle.base.proofs.Cases.{clash, lt?, and-true}
@@ -142,3 +142,32 @@ need-ok n = go (leb n 2048) refl
     go : (t : Bool) → leb n 2048 ≡ t → NeedOk (cond t (chunkOf (classOf n)) (pages (pagesFor n)))
     go true e = class-ok n (leb-true n 2048 e)
     go false e = omega (arith, leb-false n 2048 e)
+
+-- ---- classes 8, 16 and 32 keep the bitmap in the page, the others in its record
+
+pub own-some : (c : ℕ) → c < 3 → own c ≢ 0
+unfolding own
+own-some zero h = omega arith
+own-some (suc zero) h = omega arith
+own-some (suc (suc zero)) h = omega arith
+own-some (suc (suc (suc c))) h = absurd (omega arith)
+
+pub own-none : (c : ℕ) → 3 ≤ c → own c ≡ 0
+unfolding own
+own-none zero h = absurd (omega arith)
+own-none (suc zero) h = absurd (omega arith)
+own-none (suc (suc zero)) h = absurd (omega arith)
+own-none (suc (suc (suc c))) h = refl
+
+-- a bitmap in the page has whole bytes
+pub small-chunks : (c : ℕ) → c < 3 → (d : ℕ) × (chunks c ≡ 8 * d) × (d ≤ 64)
+unfolding chunks
+small-chunks zero h = (64, refl, omega arith)
+small-chunks (suc zero) h = (32, refl, omega arith)
+small-chunks (suc (suc zero)) h = (16, refl, omega arith)
+small-chunks (suc (suc (suc c))) h = absurd (omega arith)
+
+-- a bitmap in the record has at most 64 marks
+pub large-chunks : (c : ℕ) → 3 ≤ c → chunks c ≤ 64
+unfolding chunks
+large-chunks c h = pow-mono {i = 9 - c} {j = 6} (omega arith)

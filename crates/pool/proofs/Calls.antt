@@ -27,12 +27,11 @@ use Rattle.model.specs.View.{View, Kind, vacant, class, runOf, within, shown}
 use Rattle.model.specs.Ruling.{Verdict, granted, refused as denied, verdict, clearIn, pageIn, runIn, allocRuling, freeRuling, pastEnd, ruling}
 use Rattle.model.specs.Claim.{Kept, Untouched, BlocksPlaced}
 use Rattle.model.proofs.Claim.{claims}
-use Rattle.model.proofs.Classes.{bitmap-in-page, bitmap-in-record}
+use Rattle.model.proofs.Classes.{bitmap-in-page, own-some, small-chunks, large-chunks}
 use Rattle.rules.specs.Bytes.{pagesIn, mapBase, fieldsOf, brokenRule, read}
 use Rattle.rules.specs.Read.{readFields}
 use Rattle.rules.specs.Agree.{Holds}
 use Rattle.rules.proofs.Drawn.{fields-drawn}
-use Rattle.rules.proofs.Shown.{own-none}
 use Rattle.drawing.specs.Draw.{mapHas, inMap, draw}
 use Rattle.drawing.specs.Claim.{Fitting, Laws}
 use Rattle.drawing.proofs.Encoding.{fields-bounds}
@@ -135,16 +134,6 @@ module _ (w : ℕ) (s : List ℕ) where
   refused-clears m p q k (taken n) e = refl
   refused-clears m p q k inside e = refl
   refused-clears m p q k edge e = refl
-
--- ---- maps that lie in pages
-
--- classes 8, 16 and 32 have chunks of the map's own, and at most 512 in all
-small-class : (c : ℕ) → c < 3 → (own c ≢ 0) × (chunks c ≤ 512)
-unfolding own chunks
-small-class zero h = (omega arith, omega arith)
-small-class (suc zero) h = (omega arith, omega arith)
-small-class (suc (suc zero)) h = (omega arith, omega arith)
-small-class (suc (suc (suc c))) h = absurd (omega arith)
 
 module _ (w : ℕ) (wide : 2 ≤ w) (narrow : w ≤ 255) (s : List ℕ) (B : Bytes s) where
   abbrev L : Laws w s
@@ -310,14 +299,14 @@ module _ (w : ℕ) (wide : 2 ≤ w) (narrow : w ≤ 255) (s : List ℕ) (B : Byt
 
         go : (c < 3) ⊎ (3 ≤ c) → ⊥
         go (inl l) =
-            let few = small-class c l .1 in
+            let (d₀, few, many) = small-chunks c l in
             let u : k < chunks c = within in
             let x : i ≡ from + 4096 * p + k / 8 = rw (lt-ltb c 3 l) at d in
             let a : (i - from) / 4096 ≡ p = omega arith in
             let j : (i - from) % 4096 ≡ k / 8 = omega arith in
             clash (lt-ltb (8 * (k / 8)) (chunks c) (omega arith)) (rw (le-ltb i from h, a, j, e, lt-ltb c 3 l) at out)
         go (inr l) =
-            let few : chunks c ≤ 64 = bitmap-in-record c (ok .in-range) (own-none c l) in
+            let few : chunks c ≤ 64 = large-chunks c l in
             let u : k < chunks c = within in
             let y : p < pagesIn w s = in-pool in
             let x : i ≡ 8 * mapPlace w p + k / 8 = rw (le-ltb c 3 l) at d in
@@ -365,7 +354,7 @@ module _ (w : ℕ) (wide : 2 ≤ w) (narrow : w ≤ 255) (s : List ℕ) (B : Byt
             where
               beyond : c < 3 → (c ≤ 8) × Off e (4096 * (i / 4096)) (chunk c * own c) → chunks c ≤ 8 * (i % 4096)
               beyond l (d, inl y) = absurd (omega arith)
-              beyond l (d, inr y) = omega (arith, bitmap-in-page c d (small-class c l .0))
+              beyond l (d, inr y) = omega (arith, bitmap-in-page c d (own-some c l))
 
               small : (c < 3) ⊎ (3 ≤ c) → (c ≤ 8) × Off e (4096 * (i / 4096)) (chunk c * own c) → mapHas (slab c k) (i % 4096) ≡ false
               small (inl l) y = rw (lt-ltb c 3 l) (le-ltb (8 * (i % 4096)) (chunks c) (beyond l y))

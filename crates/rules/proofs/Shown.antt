@@ -22,18 +22,12 @@ use Rattle.bitmaps.specs.Bitmap.{bitsOf}
 use Rattle.bitmaps.proofs.Bits.{bits-join}
 use Rattle.rules.specs.Fields.{Fields, kind, class, run, next, prev, map, pageAt}
 use Rattle.rules.specs.Drawn.{starts, links, onList, backLink, freeLinks, pageLinks, mapOf, stateImage, stateFields}
+use Rattle.model.proofs.Classes.{own-none}
 use Rattle.rules.specs.Plain.{LiesIn, InsideFree, FirstFree, ClassPage, FirstTaken, InsideTaken, Rule2}
 use Rattle.rules.proofs.Pages.{page-past, page-idle, page-kind}
 use Rattle.rules.proofs.Runs.{started, ended, start-some, inner-start}
 
 -- ---- maps in the page's record
-own-none : (c : ℕ) → 3 ≤ c → own c ≡ 0
-unfolding own
-own-none (suc (suc (suc c))) h = refl
-own-none zero h = absurd (omega arith)
-own-none (suc zero) h = absurd (omega arith)
-own-none (suc (suc zero)) h = absurd (omega arith)
-
 bits-clear : (m : ℕ → Bool) (d : ℕ) → ((i : ℕ) → m i ≡ false) → bitsOf m d ≡ 0
 unfolding bitsOf
 bits-clear m zero h = refl
