@@ -10,7 +10,7 @@ use Rattle.base.specs.Tests.{pick}
 use Rattle.base.specs.Lists.{Mem, NoDup, keep}
 use Rattle.words.specs.Word.{Bytes}
 use Rattle.records.specs.Layout.{pagesFrom}
-use Rattle.answers.specs.Outcome.{Outcome, refused}
+use Rattle.answers.specs.Outcome.{Outcome, granted, refused}
 use Rattle.answers.specs.declared.Refusal.the-variants.{NotSound}
 use Rattle.model.specs.Classes.{Need, chunkOf, pages, needOf}
 use Rattle.model.specs.State.{State}
@@ -120,12 +120,29 @@ abbrev pub Demand3 : ℕ → List ℕ → Type 0
 Demand3 w s = shortest w ≤ length s → length s < tooLong w → (ts : List Turn) → Allowed w (formatted w s) ts →
     (u : List ℕ) → SameRecords w (played w (formatted w s) ts) u → Bytes u → Faithful w (pagesIn w s) (book w [] ts) u
 
+-- ---- corollaries
+
+-- on sound records
+pub record Corollaries (w : ℕ) (s : List ℕ) : Type 0 where
+  -- a granted alloc that is freed at once leaves the five as before
+  pub alloc-freed : (n off : ℕ) → answered w s (Alloc n) ≡ granted off →
+      (answered w (after w s (Alloc n)) (Free off) .number ≡ 0) × (shownBy w (after w (after w s (Alloc n)) (Free off)) ≡ shownBy w s)
+  -- two live blocks freed in either order leave the same five
+  pub either-way : (d e : Block) → liveIn w s d → liveIn w s e → d ≢ e →
+      shownBy w (after w (after w s (Free (offset d))) (Free (offset e))) ≡ shownBy w (after w (after w s (Free (offset e))) (Free (offset d)))
+  -- with all blocks freed the pool is one free run again
+  pub all-freed : ((e : Block) → ¬ liveIn w s e) → shownBy w s ≡ expected (pagesIn w s) []
+  -- two pools of as many pages with the same live blocks show the same five, and every next call is granted, or refused by the same number, alike
+  pub alike : (t : List ℕ) → Bytes t → brokenRule w t ≡ 0 → pagesIn w s ≡ pagesIn w t → ((e : Block) → liveIn w s e ↔ liveIn w t e) →
+      (shownBy w s ≡ shownBy w t) × ((call : Call) → answered w s call .number ≡ answered w t call .number)
+
 -- ---- all of them, over the class record's width
 
 pub record Demands (w : ℕ) (s : List ℕ) : Type 0 where
   pub demand1 : Demand1 w s
   pub demand2 : (sound : brokenRule w s ≡ 0) → Demand2 w s sound
   pub demand3 : Demand3 w s
+  pub corollaries : brokenRule w s ≡ 0 → Corollaries w s
 
 abbrev pub Claims : Type 0
 Claims = (w : ℕ) → 2 ≤ w → w ≤ 255 → (s : List ℕ) → Bytes s → Demands w s
