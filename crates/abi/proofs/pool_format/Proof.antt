@@ -1,0 +1,21 @@
+use mathlib.Core.Path.{_∙_, ap}
+use Rattle.answers.specs.Outcome.{Outcome}
+use Rattle.abi.specs.Word.{wordOf}
+use borrow.Author.Needs.{needs}
+use Rattle.abi.proofs.pool_format.Statement.{statement}
+use Rattle.abi.proofs.pool_format.Tie as tie
+
+format-requires : tie.Need-format-requires
+format-requires c κs = search needs
+
+formatted-word-requires : tie.Need-formatted-word-requires
+formatted-word-requires c κs = search needs
+
+same-length : tie.Need-same-length
+same-length c = search needs
+
+returns : tie.Need-returns
+returns c = (c .formatted-word .ensures ∙ ap wordOf (c .before .before .before .format .ensures .0), c .before .before .before .format .ensures .1)
+
+pub pool-format-spec : {M : Type 1} → statement M
+pool-format-spec = tie.close (tie.spec format-requires formatted-word-requires same-length returns)
