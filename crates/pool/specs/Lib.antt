@@ -1,3 +1,4 @@
 pub mod Calls
 pub mod Shown
 pub mod Demands
+pub mod Examples
