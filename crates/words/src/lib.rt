@@ -2,9 +2,11 @@
 ghost use mathlib.Core.Path.{_≡_};
 ghost use Prim.Native.Nat.{_+_, _*_, _≤_, _<_};
 ghost use lib.ListN.{length, getD, set};
+ghost use Rattle.words.specs.Swap.{littleAt, swapPair, swapHalf, swapWord};
 ghost use Rattle.words.specs.Word.{wordAt, withPair, withHalf, withWord, word, setWord};
 
-// Words are composed at 64 bits, so that the eight loads become one load and a byte swap.
+// Words are composed at 64 bits, least significant byte first, and then turned over: the eight loads become one load, whichever
+// parts of the word are used, and the turn one byte swap.
 fn first(b: u8) -> u64
     ensures { λ r. ⌜ (r ≡ b) × (r < 256) ⌝ }
 {
@@ -18,15 +20,43 @@ fn next(hi: u64, b: u8) -> u64
     hi * 256 + b as u64
 }
 
+fn little64(s: &[u8], at: usize) -> u64
+    requires { ⌜ at + 8 ≤ length (now s) ⌝ }
+    ensures { λ r. ⌜ r ≡ littleAt (now (s .entry)) at ⌝ }
+{
+    let four = next(
+        next(next(first(s[at + 7]), s[at + 6]), s[at + 5]),
+        s[at + 4],
+    );
+    next(
+        next(next(next(four, s[at + 3]), s[at + 2]), s[at + 1]),
+        s[at],
+    )
+}
+
+fn swap16(v: u64) -> u64
+    ensures { λ r. ⌜ (r ≡ swapPair v) × (r < 65536) ⌝ }
+{
+    v % 256 * 256 + v / 256 % 256
+}
+
+fn swap32(v: u64) -> u64
+    ensures { λ r. ⌜ (r ≡ swapHalf v) × (r < 4294967296) ⌝ }
+{
+    swap16(v % 65536) * 65536 + swap16(v / 65536 % 65536)
+}
+
+fn swap64(v: u64) -> u64
+    ensures { λ r. ⌜ r ≡ swapWord v ⌝ }
+{
+    swap32(v % 4294967296) * 4294967296 + swap32(v / 4294967296)
+}
+
 fn get64(s: &[u8], at: usize) -> u64
     requires { ⌜ at + 8 ≤ length (now s) ⌝ }
     ensures { λ r. ⌜ r ≡ wordAt (now (s .entry)) at ⌝ }
 {
-    let four = next(next(next(first(s[at]), s[at + 1]), s[at + 2]), s[at + 3]);
-    next(
-        next(next(next(four, s[at + 4]), s[at + 5]), s[at + 6]),
-        s[at + 7],
-    )
+    swap64(little64(s, at))
 }
 
 fn put16(s: &mut [u8], at: usize, v: u16)

@@ -1,106 +1,16 @@
-use Rattle.words.proofs.Chain.{chain}
-use native.Mathlib.Omega.{arith}
+use Rattle.words.proofs.Chain.{turned}
 use borrow.Author.Needs.{needs}
 use Rattle.words.proofs.get64.Statement.{statement}
 use Rattle.words.proofs.get64.Tie as tie
 
-shared-slice-read-first : tie.Need-shared-slice-read-first
-shared-slice-read-first c = omega arith
+little64-requires : tie.Need-little64-requires
+little64-requires c κs = search needs
 
-first-requires : tie.Need-first-requires
-first-requires c κs = omega arith
-
-add-next : tie.Need-add-next
-add-next c = omega arith
-
-shared-slice-read-next : tie.Need-shared-slice-read-next
-shared-slice-read-next c = omega arith
-
-next-requires : tie.Need-next-requires
-next-requires c κs = omega arith
-
-add-next-2 : tie.Need-add-next-2
-add-next-2 c = omega arith
-
-shared-slice-read-next-2 : tie.Need-shared-slice-read-next-2
-shared-slice-read-next-2 c = omega arith
-
-next-requires-2 : tie.Need-next-requires-2
-next-requires-2 c κs = omega arith
-
-add-next-3 : tie.Need-add-next-3
-add-next-3 c = omega arith
-
-shared-slice-read-next-3 : tie.Need-shared-slice-read-next-3
-shared-slice-read-next-3 c = omega arith
-
-next-requires-3 : tie.Need-next-requires-3
-next-requires-3 c κs = omega arith
-
-add-next-4 : tie.Need-add-next-4
-add-next-4 c = omega arith
-
-shared-slice-read-next-4 : tie.Need-shared-slice-read-next-4
-shared-slice-read-next-4 c = omega arith
-
-next-requires-4 : tie.Need-next-requires-4
-next-requires-4 c κs = omega arith
-
-add-next-5 : tie.Need-add-next-5
-add-next-5 c = omega arith
-
-shared-slice-read-next-5 : tie.Need-shared-slice-read-next-5
-shared-slice-read-next-5 c = omega arith
-
-next-requires-5 : tie.Need-next-requires-5
-next-requires-5 c κs = omega arith
-
-add-next-6 : tie.Need-add-next-6
-add-next-6 c = omega arith
-
-shared-slice-read-next-6 : tie.Need-shared-slice-read-next-6
-shared-slice-read-next-6 c = omega arith
-
-next-requires-6 : tie.Need-next-requires-6
-next-requires-6 c κs = omega arith
-
-add-next-7 : tie.Need-add-next-7
-add-next-7 c = omega arith
-
-shared-slice-read-next-7 : tie.Need-shared-slice-read-next-7
-shared-slice-read-next-7 c = omega arith
-
-next-requires-7 : tie.Need-next-requires-7
-next-requires-7 c κs = omega arith
+swap64-requires : tie.Need-swap64-requires
+swap64-requires c κs = search needs
 
 returns : tie.Need-returns
-returns c = rw (← chain) (cc)
+returns c = cc (turned _ _ (λ i. c .before .before .shared-slice-known .given i .fits))
 
 pub get64-spec : {M : Type 1} → statement M
-get64-spec =
-    tie.close
-    (tie.spec
-    shared-slice-read-first
-    first-requires
-    add-next
-    shared-slice-read-next
-    next-requires
-    add-next-2
-    shared-slice-read-next-2
-    next-requires-2
-    add-next-3
-    shared-slice-read-next-3
-    next-requires-3
-    add-next-4
-    shared-slice-read-next-4
-    next-requires-4
-    add-next-5
-    shared-slice-read-next-5
-    next-requires-5
-    add-next-6
-    shared-slice-read-next-6
-    next-requires-6
-    add-next-7
-    shared-slice-read-next-7
-    next-requires-7
-    returns)
+get64-spec = tie.close (tie.spec little64-requires swap64-requires returns)

@@ -1,0 +1,17 @@
+use native.Mathlib.Omega.{arith}
+use Rattle.popcount.proofs.Counts.{read-ones}
+use borrow.Author.Needs.{needs}
+use Rattle.popcount.proofs.ones.Statement.{statement}
+use Rattle.popcount.proofs.ones.Tie as tie
+
+get-word-requires : tie.Need-get-word-requires
+get-word-requires c κs = search needs
+
+cast-result : tie.Need-cast-result
+cast-result c = omega (arith, read-ones _ _ _ (λ i. c .before .shared-slice-known .given i .fits) (c .before .before .pre) (c .get-word .ensures))
+
+returns : tie.Need-returns
+returns c = read-ones _ _ _ (λ i. c .before .shared-slice-known .given i .fits) (c .before .before .pre) (c .get-word .ensures)
+
+pub ones-spec : {M : Type 1} → statement M
+ones-spec = tie.close (tie.spec get-word-requires cast-result returns)
