@@ -1,0 +1,93 @@
+-- The nine classes' numbers, as the code has them. Assumes nothing.
+use mathlib.Core.Path.{_≡_, refl}
+use mathlib.Core.Bool.{false, not}
+use Prim.Native.Nat.{ℕ, zero, suc, _+_, _-_, _*_, _/_, _^_, _≤_, _<_}
+use native.Mathlib.Omega.{arith}
+use lib.Dec.{eqb}
+use borrow.Author.Tests.{lt-ltb, le-ltb, eqb-true, not-false}
+use Rattle.base.specs.Tests.{pick}
+use Rattle.base.specs.Search.{least, any}
+use Rattle.base.proofs.Search.{any-false}
+use Rattle.records.specs.Layout.{mapPlace, pagesFrom}
+use Rattle.model.specs.Classes.{chunks, own}
+use Rattle.model.specs.State.{most}
+use Rattle.model.specs.Calls.{raise}
+use Rattle.rules.specs.Bytes.{mapBase}
+use Rattle.popcount.specs.Popcount.{mapBits}
+use Rattle.classes.specs.Classes.{mapWord}
+
+-- one computed test for the nine classes
+shifts : any (λ c. not (eqb (512 / 2 ^ c) (chunks c))) 9 ≡ false
+unfolding any least chunks
+shifts = refl
+
+pub chunks-shifted : (c : ℕ) → c < 9 → 512 / 2 ^ c ≡ chunks c
+chunks-shifted c h = eqb-true _ _ (not-false _ (any-false (λ d. not (eqb (512 / 2 ^ d) (chunks d))) 9 shifts c h))
+
+pub chunks-past : (c : ℕ) → 9 ≤ c → 1 ≡ chunks c
+unfolding chunks
+chunks-past c h = let z : 9 - c ≡ 0 = omega arith in rw z
+
+pub own-8 : (c : ℕ) → c ≡ 0 → 8 ≡ own c
+unfolding own
+own-8 c e = rw e
+
+pub own-16 : (c : ℕ) → c ≡ 1 → 2 ≡ own c
+unfolding own
+own-16 c e = rw e
+
+pub own-32 : (c : ℕ) → c ≡ 2 → 1 ≡ own c
+unfolding own
+own-32 c e = rw e
+
+pub own-past : (c : ℕ) → 3 ≤ c → 0 ≡ own c
+unfolding own
+own-past zero h = absurd (omega arith)
+own-past (suc zero) h = absurd (omega arith)
+own-past (suc (suc zero)) h = absurd (omega arith)
+own-past (suc (suc (suc c))) h = refl
+
+pub bytes-8 : (c : ℕ) → c ≡ 0 → 64 ≡ mapBits c / 8
+unfolding mapBits pick chunks
+bytes-8 c e = rw e
+
+pub bytes-16 : (c : ℕ) → c ≡ 1 → 32 ≡ mapBits c / 8
+unfolding mapBits pick chunks
+bytes-16 c e = rw e
+
+pub bytes-32 : (c : ℕ) → c ≡ 2 → 16 ≡ mapBits c / 8
+unfolding mapBits pick chunks
+bytes-32 c e = rw e
+
+pub bytes-past : (c : ℕ) → 3 ≤ c → 8 ≡ mapBits c / 8
+unfolding mapBits pick
+bytes-past c h = rw (le-ltb c 3 h)
+
+-- ---- where a map begins
+
+module _ (w P p c : ℕ) where
+  pub word-paged : c < 3 → mapWord w P p c ≡ 1 + 9 * w + 2 * P + 512 * p
+  unfolding mapWord pick
+  word-paged h = rw (lt-ltb c 3 h)
+
+  pub word-recorded : 3 ≤ c → mapWord w P p c ≡ mapPlace w p
+  unfolding mapWord pick
+  word-recorded h = rw (le-ltb c 3 h)
+
+  pub base-paged : c < 3 → mapBase w P p c ≡ pagesFrom w P + 4096 * p
+  unfolding mapBase pick
+  base-paged h = rw (lt-ltb c 3 h)
+
+  pub base-recorded : 3 ≤ c → mapBase w P p c ≡ 8 * mapPlace w p
+  unfolding mapBase pick
+  base-recorded h = rw (le-ltb c 3 h)
+
+-- ---- a tally
+
+pub raise-more : (n : ℕ) → n < 4294967295 → n + 1 ≡ raise n
+unfolding raise most
+raise-more n h = rw (lt-ltb n 4294967295 h) (omega arith)
+
+pub raise-stops : (n : ℕ) → 4294967295 ≤ n → n ≡ raise n
+unfolding raise most
+raise-stops n h = rw (le-ltb n 4294967295 h)

@@ -1,0 +1,73 @@
+-- The map of a class page and the record of a class, in the bytes of a pool of P pages. Assumes nothing.
+-- w is the number of words of a class record.
+use Prim.Native.Nat.{ℕ, _+_, _-_, _*_, _/_, _%_}
+use mathlib.Core.List.{List}
+use lib.Dec.{ltb}
+use lib.ListN.{length}
+use Rattle.base.specs.Tests.{pick}
+use Rattle.base.specs.Count.{count}
+use Rattle.records.specs.Layout.{mapPlace}
+use Rattle.records.specs.declared.ClassRecord.{ClassRecord}
+use Rattle.records.specs.Class.{classAt, withClass}
+use Rattle.model.specs.Classes.{counted}
+use Rattle.model.specs.Calls.{raise}
+use Rattle.bitmaps.specs.Bitmap.{mark}
+use Rattle.popcount.specs.Popcount.{mapBits}
+
+-- ---- the map of a page
+
+-- the word that the map of page p, of class c, begins with
+unfoldable pub mapWord : ℕ → ℕ → ℕ → ℕ → ℕ
+mapWord w P p c = pick (ltb c 3) (1 + 9 * w + 2 * P + 512 * p) (mapPlace w p)
+
+-- how many of its marks are set; 0 where the map does not lie in the pool
+unfoldable pub marksFrom : List ℕ → ℕ → ℕ → ℕ
+marksFrom s k c = pick (ltb (k + 7) (length s / 8)) (count (mark s (8 * k)) (mapBits c)) 0
+
+unfoldable pub marksSet : ℕ → List ℕ → ℕ → ℕ → ℕ → ℕ
+marksSet w s P c p = marksFrom s (mapWord w P p c) c
+
+-- ---- changes of a class record; its counts have 24 bits, so that no sum is too large
+
+-- a chunk is handed out
+abbrev pub chunkUsed : ClassRecord → ClassRecord
+chunkUsed r = record { first = record { 0 = r .first .0 }; used = r .used % 16777216 + 1; total = r .total; reqs = raise (r .reqs); fails = r .fails }
+
+-- of a new page
+abbrev pub pageUsed : ℕ → ClassRecord → ClassRecord
+pageUsed c r =
+    record {
+      first = record { 0 = r .first .0 };
+      used = r .used % 16777216 + 1;
+      total = r .total % 16777216 + counted c;
+      reqs = raise (r .reqs);
+      fails = r .fails;
+    }
+
+-- a chunk comes back
+abbrev pub chunkBack : ClassRecord → ClassRecord
+chunkBack r = record { first = record { 0 = r .first .0 }; used = r .used - 1; total = r .total; reqs = r .reqs; fails = r .fails }
+
+-- and with it its page
+abbrev pub pageBack : ℕ → ClassRecord → ClassRecord
+pageBack c r = record { first = record { 0 = r .first .0 }; used = r .used - 1; total = r .total - counted c; reqs = r .reqs; fails = r .fails }
+
+-- no chunk could be handed out
+abbrev pub noneUsed : ClassRecord → ClassRecord
+noneUsed r = record { first = record { 0 = r .first .0 }; used = r .used; total = r .total; reqs = raise (r .reqs); fails = raise (r .fails) }
+
+unfoldable pub countUsed : ℕ → List ℕ → ℕ → List ℕ
+countUsed w s c = withClass w s c (chunkUsed (classAt w s c))
+
+unfoldable pub countPageUsed : ℕ → List ℕ → ℕ → List ℕ
+countPageUsed w s c = withClass w s c (pageUsed c (classAt w s c))
+
+unfoldable pub countBack : ℕ → List ℕ → ℕ → List ℕ
+countBack w s c = withClass w s c (chunkBack (classAt w s c))
+
+unfoldable pub countPageBack : ℕ → List ℕ → ℕ → List ℕ
+countPageBack w s c = withClass w s c (pageBack c (classAt w s c))
+
+-- a chunk of class c was asked for and there is none
+unfoldable pub chunkRefused : ℕ → List ℕ → ℕ → List ℕ
+chunkRefused w s c = withClass w s c (noneUsed (classAt w s c))

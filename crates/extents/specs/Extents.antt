@@ -1,0 +1,80 @@
+-- The free runs in the bytes of a pool: first fit, and pages taken from the front of a run. Assumes nothing.
+-- Page numbers and counts have 16 bits: sums wrap, in the code and here alike, and within a pool none does.
+use Prim.Native.Nat.{ℕ, zero, suc, _+_, _-_, _%_}
+use mathlib.Core.List.{List}
+use lib.Dec.{eqb, leb, ltb}
+use Rattle.base.specs.Tests.{pick}
+use Rattle.records.specs.Layout.{noPage}
+use Rattle.records.specs.declared.Header.{Header}
+use Rattle.records.specs.declared.Links.{Links}
+use Rattle.records.specs.Header.{headerAt, withHeader}
+use Rattle.records.specs.Page.{linksAt, withLinks}
+use Rattle.lists.specs.Links.{unlinked, pushed, replaced}
+use Rattle.rules.specs.Drawn.{links}
+
+abbrev pub wrap : ℕ → ℕ
+wrap n = n % 65536
+
+-- ---- records
+
+abbrev pub freeTo : Header → ℕ → Header
+freeTo h n =
+    record {
+      edition = h .edition;
+      «min_shift» = h .«min_shift»;
+      «page_shift» = h .«page_shift»;
+      pages = h .pages;
+      «free_pages» = n;
+      «first_run» = record { 0 = h .«first_run» .0 };
+    }
+
+unfoldable pub fewerFree : List ℕ → ℕ → List ℕ
+fewerFree s k = withHeader s (freeTo (headerAt s) (headerAt s .«free_pages» - k))
+
+-- a page that is on no list
+abbrev pub plain : ℕ → ℕ → ℕ → Links
+plain kind run prev = links kind 0 run noPage prev
+
+-- the n pages from p on have the links l
+unfoldable pub filled : ℕ → List ℕ → ℕ → ℕ → Links → List ℕ
+filled w s p zero l = s
+filled w s p (suc n) l = withLinks w (filled w s p n l) (wrap (p + n)) l
+
+-- the last of the n pages from t on leads back to t
+unfoldable pub lastBacked : ℕ → List ℕ → ℕ → ℕ → List ℕ
+lastBacked w s t n = withLinks w s (wrap (t + (n - 1))) (plain 0 0 t)
+
+-- where they are two or more
+unfoldable pub backed : ℕ → List ℕ → ℕ → ℕ → List ℕ
+backed w s t n = pick (ltb 1 n) (lastBacked w s t n) s
+
+-- ---- first fit
+
+-- from page p on, the first of at most `fuel` pages of the list whose run has k pages or more
+unfoldable pub fitFrom : ℕ → List ℕ → ℕ → ℕ → ℕ → ℕ
+fitFrom w s zero k p = noPage
+fitFrom w s (suc fuel) k p =
+    pick (eqb p noPage) noPage (pick (leb k (linksAt w s p .run)) p (fitFrom w s fuel k (linksAt w s p .next .0)))
+
+unfoldable pub fitIn : ℕ → List ℕ → ℕ → ℕ → ℕ
+fitIn w s P k = fitFrom w s P k (headerAt s .«first_run» .0)
+
+-- ---- pages taken
+
+-- what is left of the free run that starts in page p, which has the links l, after its front k pages takes its place
+unfoldable pub restKept : ℕ → List ℕ → ℕ → ℕ → Links → List ℕ
+restKept w s p k l = backed w (replaced w s 0 l (wrap (p + k)) (plain 1 (l .run - k) noPage)) (wrap (p + k)) (l .run - k)
+
+-- the front k pages of that run leave it; an exact fit leaves the list
+unfoldable pub frontCut : ℕ → List ℕ → ℕ → ℕ → Links → List ℕ
+frontCut w s p k l = pick (ltb k (l .run)) (restKept w s p k l) (unlinked w s 0 l)
+
+-- and are not free any more; the caller writes their records
+unfoldable pub frontOff : ℕ → List ℕ → ℕ → ℕ → List ℕ
+frontOff w s p k = frontCut w (fewerFree s k) p k (linksAt w s p)
+
+unfoldable pub frontPage : ℕ → List ℕ → ℕ → List ℕ
+frontPage w s p = frontOff w s p 1
+
+unfoldable pub runTaken : ℕ → List ℕ → ℕ → ℕ → List ℕ
+runTaken w s p k = withLinks w (filled w (frontOff w s p k) p k (plain 4 0 noPage)) p (plain 3 k noPage)

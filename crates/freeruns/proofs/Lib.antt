@@ -1,0 +1,11 @@
+pub mod Starts
+pub mod Shown
+pub mod Surgery
+pub mod Cut
+pub mod Join
+pub mod Paint
+pub mod Fit
+pub mod Laws
+pub mod Counts
+pub mod Alike
+pub mod Drawn

@@ -1,0 +1,1 @@
+// What the operations on free runs do to an image: definitions and laws only.

@@ -1,0 +1,1 @@
+// When an image shows a state: what list surgery must leave. Definitions in specs/, laws in proofs/. No code.

@@ -1,0 +1,76 @@
+// Sizes, classes and offsets.
+use records::Offset;
+use records::PageNumber;
+ghost use mathlib.Core.Path.{_≡_};
+ghost use Prim.Native.Nat.{_+_, _*_, _≤_};
+ghost use Rattle.model.specs.Classes.{chunk, pagesFor};
+ghost use Rattle.sizes.specs.Sizes.{upTo64, upTo2048, classFor};
+
+fn up_to_64(size: u32) -> u8
+    ensures { λ r. ⌜ (r ≡ upTo64 size) × (r ≤ 8) ⌝ }
+{
+    if size <= 8 {
+        return 0;
+    }
+    if size <= 16 {
+        return 1;
+    }
+    if size <= 32 { 2 } else { 3 }
+}
+
+fn up_to_2048(size: u32) -> u8
+    ensures { λ r. ⌜ (r ≡ upTo2048 size) × (r ≤ 8) ⌝ }
+{
+    if size <= 128 {
+        return 4;
+    }
+    if size <= 256 {
+        return 5;
+    }
+    if size <= 512 {
+        return 6;
+    }
+    if size <= 1024 { 7 } else { 8 }
+}
+
+// The smallest class whose chunk holds the size, for a size up to 2,048.
+pub fn class_for(size: u32) -> u8
+    ensures { λ r. ⌜ (r ≡ classFor size) × (r ≤ 8) ⌝ }
+{
+    if size <= 64 {
+        up_to_64(size)
+    } else {
+        up_to_2048(size)
+    }
+}
+
+// The size over 4,096, rounded up.
+pub fn pages_for(size: u32) -> u32
+    ensures { λ r. ⌜ r ≡ pagesFor size ⌝ }
+{
+    size / 4096 + (size % 4096 + 4095) / 4096
+}
+
+// The offset of byte x of page p.
+pub fn offset_in(p: PageNumber, x: u32) -> Offset
+    requires { ⌜ x ≤ 268435455 ⌝ }
+    ensures { λ r. ⌜ r .0 ≡ 4096 * p .0 + x ⌝ }
+{
+    Offset(4096 * p.0 as u32 + x)
+}
+
+// The bytes of a chunk.
+pub fn chunk_size(c: u8) -> u32
+    requires { ⌜ c ≤ 8 ⌝ }
+    ensures { λ r. ⌜ (r ≡ chunk c) × (r ≤ 2048) × (1 ≤ r) ⌝ }
+{
+    2048 >> (8 - c)
+}
+
+// Chunk i of class c begins so many bytes into its page.
+pub fn chunk_start(c: u8, i: u16) -> u32
+    requires { ⌜ c ≤ 8 ⌝ }
+    ensures { λ r. ⌜ (r ≡ chunk c * i) × (r ≤ 268435455) ⌝ }
+{
+    chunk_size(c) * i as u32
+}
