@@ -2,6 +2,8 @@
 use records::Links;
 ghost use mathlib.Core.Path.{_≡_};
 ghost use Prim.Native.Nat.{_*_, _≤_};
+ghost use Rattle.words.specs.Word.{word};
+ghost use Rattle.records.specs.Layout.{linksPlace};
 ghost use Rattle.rules.specs.Fields.{kind, map};
 ghost use Rattle.rules.specs.Bytes.{fieldsOf, mapBase};
 
@@ -10,6 +12,14 @@ pub fn links_of(pool: &[u8], w: u8, p: usize) -> Links
     ensures { λ r. ⌜ r ≡ fieldsOf w (now (pool .entry)) .image .links p ⌝ }
 {
     records::unpack_links(words::get_word(pool, 2 + 9 * w as usize + 2 * p))
+}
+
+// The word that holds the links of page p.
+pub fn links_word(pool: &[u8], w: u8, p: usize) -> u64
+    requires { ⌜ p ≤ 131072 ⌝ }
+    ensures { λ r. ⌜ r ≡ word (now (pool .entry)) (linksPlace w p) ⌝ }
+{
+    words::get_word(pool, 2 + 9 * w as usize + 2 * p)
 }
 
 pub fn kind_of(pool: &[u8], w: u8, p: usize) -> u8

@@ -5,10 +5,8 @@ use mathlib.Core.Bool.{Bool, true, false}
 use mathlib.Core.List.{List}
 use Prim.Native.Nat.{ℕ, zero, suc, _+_, _*_, _/_, _%_, _≤_, _<_}
 use native.Mathlib.Omega.{arith}
-use native.Mathlib.Numerals.{add-one}
 use lib.Count as Count
-use lib.Dec.{ltb}
-use lib.ListN.{length, getD}
+use lib.ListN.{length}
 use borrow.Author.Tests.{le-ltb}
 use Rattle.base.specs.Tests.{pick}
 use Rattle.base.specs.Count.{bit, sum, count}
@@ -16,7 +14,6 @@ use Rattle.base.proofs.Count.{sum-ext}
 use Rattle.words.specs.Word.{Bytes, word}
 use Rattle.bitmaps.specs.Bitmap.{mark, bitsOf}
 use Rattle.bitmaps.proofs.Words.{word-marks}
-use Rattle.bitmaps.proofs.Marks.{mark-byte}
 use Rattle.model.specs.Classes.{chunks}
 use Rattle.popcount.specs.Popcount.{mapBits}
 

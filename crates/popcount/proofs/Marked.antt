@@ -1,5 +1,5 @@
 -- The number of set marks of a class page says whether one is clear, whether a caller holds a chunk, and how many. Assumes nothing.
-use mathlib.Core.Path.{_≡_, refl, sym, ap, _∙_}
+use mathlib.Core.Path.{_≡_, refl, ap, _∙_}
 use mathlib.Core.Bool.{Bool, true, false, _&&_, not}
 use Prim.Native.Nat.{ℕ, zero, suc, _+_, _-_, _≤_, _<_}
 use native.Mathlib.Omega.{arith}
@@ -8,14 +8,14 @@ use borrow.Author.Tests.{le-leb, lt-leb, lt-ltb, ltb-true, eq-eqb}
 use Rattle.base.specs.Tests.{allBelow}
 use Rattle.base.specs.Search.{any}
 use Rattle.base.specs.Count.{bit, sum, count}
-use Rattle.base.proofs.Cases.{bool?, same-test, clash}
+use Rattle.base.proofs.Cases.{same-test}
 use Rattle.base.proofs.Count.{sum-ext, sum-zero}
-use Rattle.base.proofs.Search.{any-some, any-false, any-at}
+use Rattle.base.proofs.Search.{any-some, any-false}
 use Rattle.base.proofs.Tests.{both-true}
 use Rattle.model.specs.Classes.{chunks, own, hasClear, hasTaken}
 use Rattle.model.specs.State.{slab}
 use Rattle.model.specs.View.{usedOn}
-use Rattle.popcount.proofs.Counts.{count-join, count-le}
+use Rattle.popcount.proofs.Counts.{count-join}
 
 -- ---- counts
 

@@ -1,13 +1,13 @@
 -- The own marks of a map are the top bits of its first word. Assumes nothing.
 use mathlib.Core.Path.{_≡_, refl, sym, ap, _∙_}
-use mathlib.Core.Logic.{_⊎_, inl, inr, _≢_}
+use mathlib.Core.Logic.{_⊎_, inl, inr}
 use mathlib.Core.Bool.{Bool, true, false}
 use mathlib.Core.List.{List}
 use Prim.Native.Nat.{ℕ, zero, suc, _+_, _-_, _*_, _/_, _^_, _≤_, _<_}
 use native.Mathlib.Omega.{arith}
 use native.Mathlib.Nat.{pow-suc, suc-mul, mul-le-mul-right}
 use lib.Dec.{leb, ltb}
-use lib.ListN.{length, getD}
+use lib.ListN.{length}
 use borrow.Author.Tests.{lt-ltb, le-ltb, le-leb, lt-leb, leb-true}
 use Rattle.base.specs.Count.{bit}
 use Rattle.base.specs.Tests.{pick, allBelow}
@@ -18,6 +18,7 @@ use Rattle.bitmaps.specs.Bitmap.{mark, bitsOf}
 use Rattle.bitmaps.proofs.Bits.{bits-small, bits-join}
 use Rattle.bitmaps.proofs.Words.{word-marks}
 use Rattle.model.specs.Classes.{chunks, own}
+use Rattle.popcount.proofs.Marked.{own-fits}
 use Rattle.rules.specs.Bytes.{pagesIn, mapBase, markAt}
 use Rattle.slabs.specs.Own.{ownWord}
 
@@ -59,12 +60,12 @@ top-most m a d =
     rw (bits-join m a d)
     (above (2 ^ a - 1) (bitsOf m a) (2 ^ d) (bitsOf (λ i. m (a + i)) d) (bits-small (λ i. m (a + i)) d) ∙ all-most m a)
 
-own-of : (c : ℕ) → (own c ≤ 8) × (own c ≤ chunks c)
-unfolding own chunks
-own-of zero = (omega arith, omega arith)
-own-of (suc zero) = (omega arith, omega arith)
-own-of (suc (suc zero)) = (omega arith, omega arith)
-own-of (suc (suc (suc c))) = (omega arith, omega arith)
+own-small : (c : ℕ) → own c ≤ 8
+unfolding own
+own-small zero = omega arith
+own-small (suc zero) = omega arith
+own-small (suc (suc zero)) = omega arith
+own-small (suc (suc (suc c))) = omega arith
 
 module _ (w : ℕ) (s : List ℕ) (n p c k : ℕ) (pages : n ≡ pagesIn w s) (h : p < n) (place : 8 * k ≡ mapBase w n p c) where
   -- the map and the words after it lie inside the pool
@@ -79,10 +80,10 @@ module _ (w : ℕ) (s : List ℕ) (n p c k : ℕ) (pages : n ≡ pagesIn w s) (h
   pub own-top : Bytes s → leb (ownWord c) (word s k) ≡ allBelow (markAt w s p c) (own c)
   unfolding ownWord markAt pick
   own-top B =
-      let o : own c + (64 - own c) ≡ 64 = omega (arith, own-of c) in
+      let o : own c + (64 - own c) ≡ 64 = omega (arith, own-small c) in
       rw (word-marks s B k (omega (arith, map-inside)))
       (ap (λ (x : ℕ). leb ((2 ^ own c - 1) * 2 ^ (64 - own c)) (bitsOf (mark s (8 * k)) x)) (sym o) ∙ top-most (mark s (8 * k)) (own c) (64 - own c)
-      ∙ all-ext _ _ (own c) (λ i l. same i (omega (arith, own-of c))))
+      ∙ all-ext _ _ (own c) (λ i l. same i (omega (arith, own-fits c))))
     where
       same : (i : ℕ) → i < chunks c → mark s (8 * k) i ≡ pick (ltb i (chunks c)) (mark s (mapBase w (pagesIn w s) p c) i) false
       same i l = unfold pick in rw (lt-ltb i (chunks c) l, place, pages)

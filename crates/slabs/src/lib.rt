@@ -3,7 +3,6 @@ ghost use mathlib.Core.Path.{_≡_};
 ghost use Prim.Native.Nat.{_≤_, _<_};
 ghost use Rattle.base.specs.Tests.{allBelow};
 ghost use Rattle.model.specs.Classes.{own};
-ghost use Rattle.rules.specs.Fields.{Fields};
 ghost use Rattle.rules.specs.Rules.{mapFits, classPage, insideFree, firstFree, firstTaken, insideTaken, byKind, rule2At};
 ghost use Rattle.rules.specs.Bytes.{pagesIn, markAt, fieldsOf};
 ghost use Rattle.slabs.specs.Own.{ownWord};

@@ -3,12 +3,12 @@ use mathlib.Core.Path.{_≡_, refl, sym, ap, _∙_}
 use mathlib.Core.Logic.{_⊎_, inl, inr, _≢_}
 use mathlib.Core.Bool.{Bool, true, false, not, false≢true}
 use mathlib.Core.List.{List}
-use Prim.Native.Nat.{ℕ, zero, suc, _+_, _-_, _*_, _%_, _^_, _≤_, _<_}
+use Prim.Native.Nat.{ℕ, zero, suc, _+_, _-_, _*_, _^_, _≤_, _<_}
 use native.Mathlib.Omega.{arith}
 use native.Mathlib.Nat.{suc-mul}
 use native.Mathlib.Numerals.{add-one}
-use lib.Dec.{eqb, leb, ltb}
-use lib.ListN.{length, length-set, getD, set}
+use lib.Dec.{eqb, ltb}
+use lib.ListN.{length, length-set, getD}
 use lib.Seq.{getD-set-same, getD-set-other}
 use borrow.Author.Tests.{eq-eqb, ne-eqb, leb-true, not-false}
 use Rattle.base.specs.Tests.{pick, allOf, allBelow}
@@ -18,15 +18,14 @@ use Rattle.base.proofs.Tests.{both-true}
 use Rattle.words.specs.Word.{Bytes, word}
 use Rattle.records.specs.Layout.{mapPlace}
 use Rattle.records.specs.declared.Links.{Links}
-use Rattle.records.specs.Page.{linksAt}
 use Rattle.model.specs.Classes.{chunks, own}
 use Rattle.model.specs.State.{Page, isIdle}
 use Rattle.model.specs.View.{kindOf, isClass, usedOn}
 use Rattle.popcount.proofs.Counts.{count-le}
-use Rattle.rules.specs.Fields.{Fields, kind, class, run, pageOf, pageAt}
+use Rattle.rules.specs.Fields.{Fields, kind, class, pageAt}
 use Rattle.rules.specs.Read.{isHead, openAt}
-use Rattle.rules.specs.Rules.{mapFits, classWith, classPage, byKind, rule2At, inUse, fullAlone}
-use Rattle.rules.specs.Bytes.{pagesIn, markAt, imageOf, fieldsOf}
+use Rattle.rules.specs.Rules.{mapFits, classWith, classPage, rule2At, inUse, fullAlone}
+use Rattle.rules.specs.Bytes.{pagesIn, imageOf, fieldsOf}
 use Rattle.tally.specs.Tally.{classShare, freeShare, faultShare, share, Counted, onesAt, classWeight, classFault, addAt, classAdded, kindAdded, pageAdded}
 use Rattle.tally.proofs.Shares.{chunks-512, ones-marks, page-is, plain-share, slab-share}
 

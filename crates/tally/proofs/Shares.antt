@@ -1,39 +1,35 @@
 -- What the code adds for a page that keeps rule 2 is what the page adds in the words of the rules. Assumes nothing.
 use mathlib.Core.Path.{_≡_, refl, sym, ap, _∙_}
 use mathlib.Core.Logic.{_⊎_, inl, inr, _≢_}
-use mathlib.Core.Bool.{Bool, true, false, _&&_, not, false≢true}
-use mathlib.Core.List.{List, [], _∷_}
-use Prim.Native.Nat.{ℕ, zero, suc, _+_, _-_, _*_, _%_, _^_, _≤_, _<_}
+use mathlib.Core.Bool.{Bool, true, false, _&&_, not}
+use mathlib.Core.List.{List}
+use Prim.Native.Nat.{ℕ, _+_, _-_, _*_, _%_, _^_, _≤_, _<_}
 use native.Mathlib.Omega.{arith}
-use native.Mathlib.Nat.{mod-eq-of-lt}
 use lib.Count as Count
 use lib.Dec.{eqb, leb, ltb}
-use lib.ListN.{length, length-set, getD, set}
+use lib.ListN.{set}
 use lib.Pow.{low, pow-mono}
-use lib.Seq.{getD-set-same, getD-set-other}
-use borrow.Author.Tests.{lt-ltb, le-ltb, le-leb, lt-leb, eq-eqb, ne-eqb, leb-true, eqb-true}
-use Rattle.base.specs.Tests.{pick, allOf, allBelow}
-use Rattle.base.specs.Count.{bit, sum, count}
+use borrow.Author.Tests.{lt-ltb, le-ltb, le-leb, lt-leb, eq-eqb, ne-eqb, eqb-true}
+use Rattle.base.specs.Tests.{pick, allBelow}
+use Rattle.base.specs.Count.{bit, count}
 use Rattle.base.proofs.Cases.{eq?, lt?}
-use Rattle.base.proofs.Tests.{both-true}
 use Rattle.words.specs.Word.{Bytes, word}
 use Rattle.records.specs.Layout.{mapPlace, noPage}
-use Rattle.records.specs.declared.Links.{Links}
 use Rattle.bitmaps.specs.Bitmap.{mark, bitsOf}
 use Rattle.bitmaps.proofs.Bits.{bits-small, bits-join}
 use Rattle.bitmaps.proofs.Words.{word-marks}
-use Rattle.model.specs.Classes.{chunks, own, hasClear, hasTaken}
+use Rattle.model.specs.Classes.{chunks, own}
 use Rattle.model.specs.State.{Page, idle, slab, taken, inside, edge, isIdle}
 use Rattle.model.specs.View.{kindOf, isClass, usedOn}
 use Rattle.model.specs.WellFormed.{isOpen}
 use Rattle.popcount.specs.Popcount.{mapBits}
-use Rattle.popcount.proofs.Counts.{ones-bits, count-join, count-le}
+use Rattle.popcount.proofs.Counts.{ones-bits, count-join}
 use Rattle.popcount.proofs.Marked.{count-ext, count-none, clear-count, taken-count, used-count}
-use Rattle.rules.specs.Fields.{Fields, kind, class, run, next, prev, map, pageOf, pageAt}
+use Rattle.rules.specs.Fields.{Fields, kind, class, run, next, prev, pageOf, pageAt}
 use Rattle.rules.specs.Read.{isHead, openAt}
-use Rattle.rules.specs.Rules.{mapFits, classWith, classPage, byKind, rule2At, fullAlone, inUse}
-use Rattle.rules.specs.Bytes.{pagesIn, mapBase, markAt, imageOf, fieldsOf}
-use Rattle.tally.specs.Tally.{classShare, freeShare, faultShare, share, onesAt, classWeight, strays, classFault, addAt, classAdded, pageAdded}
+use Rattle.rules.specs.Rules.{mapFits, fullAlone, inUse}
+use Rattle.rules.specs.Bytes.{pagesIn, mapBase, markAt}
+use Rattle.tally.specs.Tally.{classShare, freeShare, faultShare, share, onesAt, classWeight, strays, classFault}
 
 -- ---- the set marks of a page whose map field fits its class
 

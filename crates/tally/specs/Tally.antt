@@ -2,7 +2,7 @@
 -- A counter holds up to three counts side by side, so that a page of a class is one addition: from bit 0, from bit 32 and from bit 48 on.
 use Prim.Native.Nat.{ℕ, zero, suc, _+_, _-_, _*_, _%_, _^_, _<_}
 use mathlib.Core.Path.{_≡_}
-use mathlib.Core.Bool.{Bool, true, false, not}
+use mathlib.Core.Bool.{Bool, false, not}
 use mathlib.Core.List.{List}
 use lib.Dec.{eqb, leb, ltb}
 use lib.ListN.{getD, set}
@@ -10,7 +10,6 @@ use Rattle.base.specs.Tests.{pick}
 use Rattle.base.specs.Count.{bit, sum, count}
 use Rattle.records.specs.Layout.{noPage}
 use Rattle.records.specs.declared.Links.{Links}
-use Rattle.records.specs.Page.{linksAt}
 use Rattle.bitmaps.specs.Bitmap.{mark}
 use Rattle.model.specs.Classes.{chunks, own}
 use Rattle.model.specs.State.{isIdle}

@@ -1,16 +1,13 @@
 // One pass over the pages: rule 2 at each, and what the other rules need to know of all of them, in eleven counters.
 use records::Links;
 ghost use mathlib.Core.Path.{_≡_};
-ghost use mathlib.Core.Bool.{true, false, not};
+ghost use mathlib.Core.Bool.{true, false};
 ghost use Prim.Native.Nat.{ℕ, _+_, _-_, _*_, _≤_, _<_};
-ghost use lib.Dec.{eqb};
 ghost use lib.ListN.{length, getD};
-ghost use Rattle.base.specs.Tests.{pick};
 ghost use Rattle.model.specs.Classes.{chunks, own};
-ghost use Rattle.rules.specs.Fields.{Fields};
 ghost use Rattle.rules.specs.Rules.{rule2};
 ghost use Rattle.rules.specs.Bytes.{pagesIn, fieldsOf};
-ghost use Rattle.tally.specs.Tally.{Counted, onesAt, classWeight, strays, classFault, addAt, classAdded, kindAdded, pageAdded};
+ghost use Rattle.tally.specs.Tally.{Counted, onesAt, classWeight, strays, classFault, addAt, classAdded, pageAdded};
 
 fn add(t: &mut [u64; 11], j: usize, x: u64)
     requires { ⌜ j < 11 ⌝ }

@@ -1,5 +1,5 @@
 -- From the answers of the tests to the first broken rule. Assumes nothing.
-use mathlib.Core.Path.{_≡_, refl, sym, ap, _∙_}
+use mathlib.Core.Path.{_≡_, refl, sym, _∙_}
 use mathlib.Core.Bool.{Bool, true, false, not}
 use mathlib.Core.List.{List, [], _∷_}
 use Prim.Native.Nat.{ℕ, zero, suc, _*_, _≤_, _<_}
@@ -11,6 +11,7 @@ use borrow.Author.Tests.{leb-true, not-true, not-false}
 use Rattle.base.specs.Tests.{pick, allOf}
 use Rattle.base.proofs.Tests.{both-true}
 use Rattle.model.specs.Classes.{chunks, maxPages}
+use Rattle.model.proofs.Classes.{max-pages}
 use Rattle.tally.proofs.Shares.{chunks-512}
 use Rattle.tests.proofs.Loops.{passed}
 use Rattle.rules.specs.Bytes.{pagesIn, fieldsOf, rule1, brokenRule}
@@ -30,8 +31,8 @@ unfolding rule1 allOf
 few-pages w s n u e d f =
     let a = both-true _ _ (passed _ u d f) in
     let b = both-true _ _ (a .1) in
-    let z : pagesIn w s ≤ 256 = leb-true (pagesIn w s) 256 (b .0) in
-    omega arith
+    let z : pagesIn w s ≤ maxPages = leb-true (pagesIn w s) maxPages (b .0) in
+    omega (arith, max-pages)
 
 -- ---- new counters
 

@@ -2,29 +2,19 @@ use Rattle.listings.proofs.Listed.{class-listed}
 use borrow.Author.Needs.{needs}
 use Rattle.listings.proofs.class_list.Statement.{statement}
 use Rattle.listings.proofs.class_list.Tie as tie
-use Rattle.listings.proofs.class_list.Reads as reads
-use Rattle.listings.proofs.class_list.Lts as lts
-use Rattle.records.proofs.get_class.Reads as get-class-reads
-use Rattle.totals.proofs.high.Reads as high-reads
-use Rattle.walk.proofs.follow.Reads as follow-reads
 
--- src/lib.rt:24:9
 get-class-requires : tie.Need-get-class-requires
 get-class-requires c κs = search needs
 
--- src/lib.rt:25:16
 high-requires : tie.Need-high-requires
 high-requires c κs = search needs
 
--- src/lib.rt:26:39
 cast-follow : tie.Need-cast-follow
 cast-follow c = search needs
 
--- src/lib.rt:26:5
 follow-requires : tie.Need-follow-requires
 follow-requires c κs = search needs
 
--- src/lib.rt:20:1
 returns : tie.Need-returns
 returns c = let b = c .before .before .before .before .before in class-listed (b .args .w) (b .args .pool .now) (b .args .n) (b .args .t .now) (b .pre .0) _ _ _ (b .pre .1) (c .before .before .high .ensures) _ (c .before .before .before .get-class .ensures) (c .follow .ensures)
 

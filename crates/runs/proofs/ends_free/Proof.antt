@@ -3,20 +3,14 @@ use Rattle.base.proofs.Tests.{picks}
 use borrow.Author.Needs.{needs}
 use Rattle.runs.proofs.ends_free.Statement.{statement}
 use Rattle.runs.proofs.ends_free.Tie as tie
-use Rattle.runs.proofs.ends_free.Reads as reads
-use Rattle.runs.proofs.ends_free.Lts as lts
-use Rattle.runs.proofs.kind_over.Reads as kind-over-reads
 
--- src/lib.rt:93:9
 kind-over-requires : tie.Need-kind-over-requires
 kind-over-requires c κs = search needs
 
--- src/lib.rt:93:9
 returns : tie.Need-returns
 unfolding endsFree
 returns c = search picks
 
--- src/lib.rt:88:1
 returns-2 : tie.Need-returns-2
 unfolding endsFree
 returns-2 c = search picks

@@ -3,28 +3,20 @@ use Rattle.base.proofs.Tests.{picks}
 use borrow.Author.Needs.{needs}
 use Rattle.runs.proofs.last_back.Statement.{statement}
 use Rattle.runs.proofs.last_back.Tie as tie
-use Rattle.runs.proofs.last_back.Reads as reads
-use Rattle.runs.proofs.last_back.Lts as lts
-use Rattle.runs.proofs.prev_is.Reads as prev-is-reads
 
--- src/lib.rt:103:33
 add-prev-is : tie.Need-add-prev-is
 add-prev-is c = search needs
 
--- src/lib.rt:103:33
 sub-prev-is : tie.Need-sub-prev-is
 sub-prev-is c = search needs
 
--- src/lib.rt:103:9
 prev-is-requires : tie.Need-prev-is-requires
 prev-is-requires c κs = search needs
 
--- src/lib.rt:103:9
 returns : tie.Need-returns
 unfolding lastBack
 returns c = search picks
 
--- src/lib.rt:98:1
 returns-2 : tie.Need-returns-2
 unfolding lastBack
 returns-2 c = search picks

@@ -2,25 +2,16 @@ use Rattle.slabs.proofs.Top.{own-read}
 use borrow.Author.Needs.{needs}
 use Rattle.slabs.proofs.own_marked.Statement.{statement}
 use Rattle.slabs.proofs.own_marked.Tie as tie
-use Rattle.slabs.proofs.own_marked.Reads as reads
-use Rattle.slabs.proofs.own_marked.Lts as lts
-use Rattle.fields.proofs.map_at.Reads as map-at-reads
-use Rattle.slabs.proofs.own_word.Reads as own-word-reads
-use Rattle.words.proofs.get_word.Reads as get-word-reads
 
--- src/lib.rt:27:9
 map-at-requires : tie.Need-map-at-requires
 map-at-requires c κs = search needs
 
--- src/lib.rt:28:5
 own-word-requires : tie.Need-own-word-requires
 own-word-requires c κs = search needs
 
--- src/lib.rt:28:20
 get-word-requires : tie.Need-get-word-requires
 get-word-requires c κs = search needs
 
--- src/lib.rt:23:1
 returns : tie.Need-returns
 returns c = own-read _ _ _ _ _ _ _ _ (c .before .before .before .before .pre) (c .before .before .map-at .ensures) (λ i. c .before .before .before .shared-slice-known .given i .fits) (c .before .own-word .ensures) (c .get-word .ensures)
 

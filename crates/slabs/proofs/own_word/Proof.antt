@@ -1,22 +1,16 @@
 use Rattle.slabs.proofs.Arms.{own-words}
 use Rattle.slabs.proofs.own_word.Statement.{statement}
 use Rattle.slabs.proofs.own_word.Tie as tie
-use Rattle.slabs.proofs.own_word.Reads as reads
-use Rattle.slabs.proofs.own_word.Lts as lts
 
--- src/lib.rt:11:1
 returns : tie.Need-returns
 returns c = search own-words
 
--- src/lib.rt:11:1
 returns-2 : tie.Need-returns-2
 returns-2 c = search own-words
 
--- src/lib.rt:11:1
 returns-3 : tie.Need-returns-3
 returns-3 c = search own-words
 
--- src/lib.rt:11:1
 returns-4 : tie.Need-returns-4
 returns-4 c = search own-words
 

@@ -3,22 +3,16 @@ use Rattle.tally.proofs.Steps.{own-0}
 use Rattle.tally.proofs.Steps.{owns}
 use Rattle.tally.proofs.own_of.Statement.{statement}
 use Rattle.tally.proofs.own_of.Tie as tie
-use Rattle.tally.proofs.own_of.Reads as reads
-use Rattle.tally.proofs.own_of.Lts as lts
 
--- src/lib.rt:22:1
 returns : tie.Need-returns
 returns c = search owns
 
--- src/lib.rt:22:1
 returns-2 : tie.Need-returns-2
 returns-2 c = search owns
 
--- src/lib.rt:22:1
 returns-3 : tie.Need-returns-3
 returns-3 c = search owns
 
--- src/lib.rt:22:1
 returns-4 : tie.Need-returns-4
 returns-4 c = own-0 _ (search needs) (search needs) (search needs)
 

@@ -1,4 +1,4 @@
-use mathlib.Core.Path.{_≡_, refl}
+use mathlib.Core.Path.{_≡_}
 use mathlib.Core.Bool.{true, false≢true}
 use Prim.Native.Nat.{_-_, _≤_}
 use native.Mathlib.Omega.{arith}
@@ -10,11 +10,6 @@ use Rattle.tests.proofs.Loops.{all-none, all-more, all-fails, all-done}
 use Rattle.tally.proofs.Pass.{Passed, pass-none, class-ok, pass-more, pass-done}
 use Rattle.tally.proofs.scan.Statement.{statement}
 use Rattle.tally.proofs.scan.Tie as tie
-use Rattle.tally.proofs.scan.Reads as reads
-use Rattle.tally.proofs.scan.Lts as lts
-use Rattle.fields.proofs.links_of.Reads as links-of-reads
-use Rattle.slabs.proofs.page_fits.Reads as page-fits-reads
-use Rattle.tally.proofs.add_page.Reads as add-page-reads
 
 abbrev Inv-loop : tie.InvT-loop
 Inv-loop pool w n t₀ p₀ t p = (p ≤ n) × (allBelow (rule2At (fieldsOf w pool) n) p ≡ true) × Passed (fieldsOf w pool) n p t
@@ -22,40 +17,31 @@ Inv-loop pool w n t₀ p₀ t p = (p ≤ n) × (allBelow (rule2At (fieldsOf w po
 abbrev μ-loop : tie.MeasureT-loop
 μ-loop pool w n t₀ p₀ t p = n - p
 
--- src/lib.rt:110:5
 loop-holds : tie.Need-loop-holds Inv-loop μ-loop
 loop-holds c = (search needs, all-none _, pass-none _ _ _ (c .before .pre .2) (c .before .pre .3))
 
--- src/lib.rt:111:13
 page-fits-requires : tie.Need-page-fits-requires Inv-loop μ-loop
 page-fits-requires c κs = search needs
 
--- src/lib.rt:112:13
 returns : tie.Need-returns Inv-loop μ-loop
 unfolding rule2
 returns c = (all-fails _ _ _ _ (c .before .before .loop-test .taken) (c .before .page-fits .ensures) (c .if1 .taken), λ z. absurd (false≢true z))
 
--- src/lib.rt:114:13
 links-of-requires : tie.Need-links-of-requires Inv-loop μ-loop
 links-of-requires c κs = search needs
 
--- src/lib.rt:115:9
 add-page-requires : tie.Need-add-page-requires Inv-loop μ-loop
 add-page-requires c κs = let s = c .before .before .before .before .before .before in let b = s .before in (b .pre .0, c .before .before .before .before .loop-test .taken, omega (arith, b .pre .1), class-ok (b .args .w) (b .args .pool .now) (b .args .n) _ (λ i. s .shared-slice-known .given i .fits) (b .pre .0) (b .pre .1) (c .before .before .before .before .loop-test .taken) _ (c .before .before .before .page-fits .ensures) (c .before .before .if1 .left) _ (c .before .links-of .ensures))
 
--- src/lib.rt:116:9
 add-p : tie.Need-add-p Inv-loop μ-loop
 add-p c = search needs
 
--- src/lib.rt:110:5
 loop-less : tie.Need-loop-less Inv-loop μ-loop
 loop-less c = search needs
 
--- src/lib.rt:110:5
 loop-again : tie.Need-loop-again Inv-loop μ-loop
 loop-again c = let s = c .before .before .before .before .before .before .before in let b = s .before in let l = c .before .before .before .before .before .before .loop in (search needs, all-more _ _ _ (c .before .before .before .before .page-fits .ensures) (c .before .before .before .if1 .left) (l .inv .1), pass-more (b .args .w) (b .args .pool .now) (b .args .n) _ (λ i. s .shared-slice-known .given i .fits) (b .pre .0) (b .pre .1) (c .before .before .before .before .before .loop-test .taken) _ (c .before .before .before .before .page-fits .ensures) (c .before .before .before .if1 .left) _ _ _ (l .inv .2) (c .before .before .links-of .ensures) (c .add-page .ensures))
 
--- src/lib.rt:105:1
 returns-2 : tie.Need-returns-2 Inv-loop μ-loop
 unfolding rule2
 returns-2 c = (all-done _ _ _ (c .before .loop .inv .0) (c .loop-test .left) (c .before .loop .inv .1), λ _. pass-done _ _ _ _ (c .before .loop .inv .2) (c .before .loop .inv .0) (c .loop-test .left))

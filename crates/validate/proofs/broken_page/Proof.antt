@@ -4,25 +4,17 @@ use Rattle.validate.specs.Broken.{fromRule2}
 use Rattle.validate.proofs.Answers.{all-zero, pick-fails, pick-passes}
 use Rattle.validate.proofs.broken_page.Statement.{statement}
 use Rattle.validate.proofs.broken_page.Tie as tie
-use Rattle.validate.proofs.broken_page.Reads as reads
-use Rattle.validate.proofs.broken_page.Lts as lts
-use Rattle.tally.proofs.scan.Reads as scan-reads
-use Rattle.validate.proofs.broken_list_or_count.Reads as broken-list-or-count-reads
 
--- src/lib.rt:105:9
 scan-requires : tie.Need-scan-requires
 scan-requires c κs = (c .before .before .pre .0, c .before .before .pre .1, refl, all-zero 11)
 
--- src/lib.rt:106:9
 returns : tie.Need-returns
 unfolding fromRule2
 returns c = pick-fails _ _ _ _ (c .before .scan .ensures .0) (c .if1 .taken) refl
 
--- src/lib.rt:108:5
 broken-list-or-count-requires : tie.Need-broken-list-or-count-requires
 broken-list-or-count-requires c κs = let b = c .before .before .before .before .before in let k = c .before .before .scan .ensures in let t = not-false _ (c .before .if1 .left) in record { pages = b .pre .0; most = b .pre .1; fits = sym (k .0) ∙ t; counted = k .1 t }
 
--- src/lib.rt:100:1
 returns-2 : tie.Need-returns-2
 unfolding fromRule2
 returns-2 c = pick-passes _ _ _ _ (c .before .before .before .scan .ensures .0) (c .before .before .if1 .left) (c .broken-list-or-count .ensures)

@@ -2,45 +2,31 @@ use Rattle.rules.specs.Bytes.{rule1}
 use borrow.Author.Needs.{needs}
 use Rattle.validate.proofs.header_fits.Statement.{statement}
 use Rattle.validate.proofs.header_fits.Tie as tie
-use Rattle.validate.proofs.header_fits.Reads as reads
-use Rattle.validate.proofs.header_fits.Lts as lts
-use Rattle.records.proofs.get_header.Reads as get-header-reads
-use Rattle.tests.proofs.all6.Reads as all6-reads
-use Rattle.tests.proofs.minus.Reads as minus-reads
 
--- src/lib.rt:23:9
 get-header-requires : tie.Need-get-header-requires
 get-header-requires c κs = search needs
 
--- src/lib.rt:24:9
 minus-requires : tie.Need-minus-requires
 minus-requires c κs = search needs
 
--- src/lib.rt:25:21
 mul-least : tie.Need-mul-least
 mul-least c = search needs
 
--- src/lib.rt:25:17
 add-least : tie.Need-add-least
 add-least c = search needs
 
--- src/lib.rt:25:17
 add-least-2 : tie.Need-add-least-2
 add-least-2 c = search needs
 
--- src/lib.rt:30:9
 cast-all6 : tie.Need-cast-all6
 cast-all6 c = search needs
 
--- src/lib.rt:33:9
 cast-all6-2 : tie.Need-cast-all6-2
 cast-all6-2 c = search needs
 
--- src/lib.rt:27:5
 all6-requires : tie.Need-all6-requires
 all6-requires c κs = search needs
 
--- src/lib.rt:19:1
 returns : tie.Need-returns
 unfolding rule1
 returns c = cc

@@ -3,15 +3,10 @@ use Rattle.totals.proofs.Totals.{rule5-is}
 use borrow.Author.Needs.{needs}
 use Rattle.validate.proofs.in_use.Statement.{statement}
 use Rattle.validate.proofs.in_use.Tie as tie
-use Rattle.validate.proofs.in_use.Reads as reads
-use Rattle.validate.proofs.in_use.Lts as lts
-use Rattle.totals.proofs.low.Reads as low-reads
 
--- src/lib.rt:41:5
 low-requires : tie.Need-low-requires
 low-requires c κs = search needs
 
--- src/lib.rt:37:1
 returns : tie.Need-returns
 returns c = let b = c .before .before in cc (rule5-is (fieldsOf (b .args .w) (b .args .pool .now)) (b .args .n) (b .args .t .now) (b .pre .most) (b .pre .counted))
 

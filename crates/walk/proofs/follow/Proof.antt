@@ -9,11 +9,6 @@ use Rattle.walk.specs.Walk.{belongs}
 use Rattle.walk.proofs.Steps.{at-bad, at-back, at-on, at-end}
 use Rattle.walk.proofs.follow.Statement.{statement}
 use Rattle.walk.proofs.follow.Tie as tie
-use Rattle.walk.proofs.follow.Reads as reads
-use Rattle.walk.proofs.follow.Lts as lts
-use Rattle.walk.proofs.leads_back.Reads as leads-back-reads
-use Rattle.walk.proofs.next_of.Reads as next-of-reads
-use Rattle.walk.proofs.on_list.Reads as on-list-reads
 
 abbrev Inv-loop : tie.InvT-loop
 Inv-loop pool w n c count first before₀ at₀ left₀ before at left =
@@ -22,43 +17,33 @@ Inv-loop pool w n c count first before₀ at₀ left₀ before at left =
 abbrev μ-loop : tie.MeasureT-loop
 μ-loop pool w n c count first before₀ at₀ left₀ before at left = left
 
--- src/lib.rt:83:5
 loop-holds : tie.Need-loop-holds Inv-loop μ-loop
 loop-holds c = (c .before .pre .3, refl)
 
--- src/lib.rt:84:13
 on-list-requires : tie.Need-on-list-requires Inv-loop μ-loop
 on-list-requires c κs = let b = c .before .before .before in (b .pre .0, b .pre .1, b .pre .2)
 
--- src/lib.rt:85:13
 returns : tie.Need-returns Inv-loop μ-loop
 returns c = at-bad _ _ _ _ _ _ (c .before .before .before .loop .inv .1) (c .before .before .loop-test .taken) _ (c .before .on-list .ensures) (c .if1 .taken)
 
--- src/lib.rt:87:13
 leads-back-requires : tie.Need-leads-back-requires Inv-loop μ-loop
 leads-back-requires c κs = search needs
 
--- src/lib.rt:88:13
 returns-2 : tie.Need-returns-2 Inv-loop μ-loop
 returns-2 c = at-back _ _ _ _ _ _ (c .before .before .before .before .before .loop .inv .1) (c .before .before .before .before .loop-test .taken) _ _ (c .before .before .before .on-list .ensures) (c .before .before .if1 .left) (c .before .leads-back .ensures) (c .if2 .taken)
 
--- src/lib.rt:91:9
 next-of-requires : tie.Need-next-of-requires Inv-loop μ-loop
 next-of-requires c κs = search needs
 
--- src/lib.rt:92:9
 sub-left : tie.Need-sub-left Inv-loop μ-loop
 sub-left c = search needs
 
--- src/lib.rt:83:5
 loop-less : tie.Need-loop-less Inv-loop μ-loop
 loop-less c = search needs
 
--- src/lib.rt:83:5
 loop-again : tie.Need-loop-again Inv-loop μ-loop
 loop-again c = (c .next-of .ensures .1, at-on _ _ _ _ _ _ (c .before .before .before .before .before .before .loop .inv .1) (c .before .before .before .before .before .loop-test .taken) _ _ _ (c .before .before .before .before .on-list .ensures) (c .before .before .before .if1 .left) (c .before .before .leads-back .ensures) (c .before .if2 .left) (c .next-of .ensures .0))
 
--- src/lib.rt:76:1
 returns-3 : tie.Need-returns-3 Inv-loop μ-loop
 returns-3 c = at-end _ _ _ _ _ _ (c .before .loop .inv .1) (c .loop-test .left)
 

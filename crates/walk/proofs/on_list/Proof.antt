@@ -2,24 +2,16 @@ use Rattle.walk.proofs.Open.{class-on, run-on}
 use borrow.Author.Needs.{needs}
 use Rattle.walk.proofs.on_list.Statement.{statement}
 use Rattle.walk.proofs.on_list.Tie as tie
-use Rattle.walk.proofs.on_list.Reads as reads
-use Rattle.walk.proofs.on_list.Lts as lts
-use Rattle.walk.proofs.is_head.Reads as is-head-reads
-use Rattle.walk.proofs.is_open.Reads as is-open-reads
 
--- src/lib.rt:70:9
 is-open-requires : tie.Need-is-open-requires
 is-open-requires c κs = search needs
 
--- src/lib.rt:70:9
 returns : tie.Need-returns
 returns c = class-on _ _ _ _ _ (c .before .if1 .taken) (c .is-open .ensures)
 
--- src/lib.rt:72:5
 is-head-requires : tie.Need-is-head-requires
 is-head-requires c κs = search needs
 
--- src/lib.rt:65:1
 returns-2 : tie.Need-returns-2
 returns-2 c = run-on _ _ _ _ _ (c .before .if1 .left) (c .is-head .ensures)
 

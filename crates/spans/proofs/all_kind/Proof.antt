@@ -6,11 +6,8 @@ use Rattle.base.specs.Tests.{allBelow}
 use Rattle.rules.specs.Rules.{kindFrom}
 use Rattle.rules.specs.Bytes.{fieldsOf}
 use Rattle.tests.proofs.Loops.{alls, all-more, all-fails}
-use Rattle.runs.proofs.all_kind.Statement.{statement}
-use Rattle.runs.proofs.all_kind.Tie as tie
-use Rattle.runs.proofs.all_kind.Reads as reads
-use Rattle.runs.proofs.all_kind.Lts as lts
-use Rattle.runs.proofs.kind_is.Reads as kind-is-reads
+use Rattle.spans.proofs.all_kind.Statement.{statement}
+use Rattle.spans.proofs.all_kind.Tie as tie
 
 abbrev Inv-loop : tie.InvT-loop
 Inv-loop pool w start want count i₀ i = (i ≤ count) × (allBelow (kindFrom (fieldsOf w pool) start want) i ≡ true)
@@ -18,37 +15,29 @@ Inv-loop pool w start want count i₀ i = (i ≤ count) × (allBelow (kindFrom (
 abbrev μ-loop : tie.MeasureT-loop
 μ-loop pool w start want count i₀ i = count - i
 
--- src/lib.rt:68:5
 loop-holds : tie.Need-loop-holds Inv-loop μ-loop
 loop-holds c = search alls
 
--- src/lib.rt:69:30
 add-kind-is : tie.Need-add-kind-is Inv-loop μ-loop
 add-kind-is c = search alls
 
--- src/lib.rt:69:13
 kind-is-requires : tie.Need-kind-is-requires Inv-loop μ-loop
 kind-is-requires c κs = search alls
 
--- src/lib.rt:70:13
 returns : tie.Need-returns Inv-loop μ-loop
 unfolding kindFrom
 returns c = all-fails _ _ _ _ (c .before .before .loop-test .taken) (c .before .kind-is .ensures) (c .if1 .taken)
 
--- src/lib.rt:72:9
 add-i : tie.Need-add-i Inv-loop μ-loop
 add-i c = search alls
 
--- src/lib.rt:68:5
 loop-less : tie.Need-loop-less Inv-loop μ-loop
 loop-less c = search alls
 
--- src/lib.rt:68:5
 loop-again : tie.Need-loop-again Inv-loop μ-loop
 unfolding kindFrom
 loop-again c = (search needs, all-more _ _ _ (c .before .kind-is .ensures) (c .if1 .left) (c .before .before .before .loop .inv .1))
 
--- src/lib.rt:63:1
 returns-2 : tie.Need-returns-2 Inv-loop μ-loop
 returns-2 c = search alls
 

@@ -1,0 +1,96 @@
+-- Alloc on the bytes of a sound pool does what the model does, given what each operation does. Assumes nothing.
+use mathlib.Core.Path.{_≡_, refl, sym, ap, _∙_}
+use mathlib.Core.Logic.{_⊎_, inl, inr, _≢_}
+use mathlib.Core.Bool.{Bool, true, false, cond}
+use mathlib.Core.Option.{Option, none, some}
+use mathlib.Core.List.{List, [], _∷_}
+use Prim.Native.Nat.{ℕ, suc, _+_, _-_, _*_, _/_, _%_, _≤_, _<_}
+use native.Mathlib.Omega.{arith}
+use lib.Dec.{eqb, leb}
+use borrow.Author.Tests.{eq-eqb, ne-eqb, le-leb, lt-leb}
+use Rattle.base.specs.Tests.{pick}
+use Rattle.base.specs.Links.{headOr}
+use Rattle.base.proofs.Cases.{lt?}
+use Rattle.records.specs.Layout.{noPage}
+use Rattle.answers.specs.Outcome.{Outcome, granted, refused}
+use Rattle.answers.specs.declared.Refusal.the-variants.{NoRoom}
+use Rattle.model.specs.Classes.{chunk, own, lowest, classOf, pagesFor, Need, chunkOf, pages, needOf}
+use Rattle.model.specs.State.{Run, State, marksOf}
+use Rattle.model.specs.Runs.{fit}
+use Rattle.model.specs.Calls.{Answer, at, no, Reply, noRoom, refuse, tallied, allocRun, cutPage, markChunk, allocChunk, allocFor, alloc}
+use Rattle.model.proofs.Classes.{class-ok}
+use Rattle.lists.specs.Links.{firstOf}
+use Rattle.extents.specs.Extents.{fitIn, runTaken}
+use Rattle.classes.specs.Classes.{chunkRefused}
+use Rattle.chunks.specs.Chunks.{chunkTaken, pageCut}
+use Rattle.sizes.specs.Sizes.{classFor}
+use Rattle.sizes.proofs.Laws.{class-is}
+use Rattle.allocating.specs.Allocating.{lowestOn, chunkOutcome, chunkSlice, firstOutcome, cutOutcome, cutSlice, newOutcome, newSlice, fromOutcome, fromSlice, classOutcome, classSlice, runOutcome, runSlice, pagesOutcome, pagesSlice, allocOutcome, allocSlice}
+use Rattle.drawing.specs.Draw.{draw}
+use Rattle.pool.specs.Calls.{outcome}
+
+-- the page where a run starts, or none
+abbrev pub startOf : Option Run → ℕ
+startOf none = noPage
+startOf (some r) = r .start
+
+-- what reading and each operation do on the bytes s, which show the state m of P pages
+pub record AllocFacts (w : ℕ) (s : List ℕ) (P : ℕ) (m : State) : Type 0 where
+  pub same : draw w s m ≡ s
+  pub first : (c : ℕ) → c ≤ 8 → firstOf w s (1 + c) ≡ headOr noPage (m .lists c)
+  pub listed : (c p : ℕ) (rest : List ℕ) → c ≤ 8 → m .lists c ≡ p ∷ rest → p ≢ noPage
+  pub fits : (k : ℕ) → 1 ≤ k → fitIn w s P k ≡ startOf (fit k (m .runs))
+  pub found : (k : ℕ) (r : Run) → fit k (m .runs) ≡ some r → (r .start ≢ noPage) × (k < 65536)
+  pub low : (c p : ℕ) (rest : List ℕ) → c ≤ 8 → m .lists c ≡ p ∷ rest → lowestOn w s P c p ≡ lowest c (marksOf (m .page p))
+  pub chunk : (c p : ℕ) (rest : List ℕ) → c ≤ 8 → m .lists c ≡ p ∷ rest →
+      chunkTaken w s P c p (lowest c (marksOf (m .page p))) ≡ draw w s (markChunk m c p rest (marksOf (m .page p)) .after)
+  pub cut : (c : ℕ) (r : Run) → c ≤ 8 → m .lists c ≡ [] → fit 1 (m .runs) ≡ some r → pageCut w s P c (r .start) ≡ draw w s (cutPage m c (some r) .after)
+  pub refuse-chunk : (c : ℕ) → c ≤ 8 → chunkRefused w s c ≡ draw w s (tallied m c)
+  pub run : (k : ℕ) (r : Run) → 1 ≤ k → fit k (m .runs) ≡ some r → runTaken w s (r .start) k ≡ draw w s (allocRun m k (some r) .after)
+
+-- answer and slice of a call
+pub record Does (w : ℕ) (s : List ℕ) (o : Outcome) (t : List ℕ) (r : Reply) : Type 0 where
+  pub answer : o ≡ outcome (r .answer)
+  pub slice : t ≡ draw w s (r .after)
+
+module _ {w : ℕ} {s : List ℕ} {P : ℕ} {m : State} (F : AllocFacts w s P m) where
+  -- a new page, or none
+  cut-does : (c : ℕ) → c ≤ 8 → m .lists c ≡ [] → (f : Option Run) → fit 1 (m .runs) ≡ f → Does w s (cutOutcome c (startOf f)) (cutSlice w s P c (startOf f)) (cutPage m c f)
+  unfolding cutOutcome cutSlice firstOutcome pick cutPage refuse noRoom
+  cut-does c h e none f = record { answer = refl; slice = F .refuse-chunk c h }
+  cut-does c h e (some r) f =
+      let d = F .found 1 r f .0 in
+      record { answer = rw (ne-eqb (r .start) noPage d); slice = rw (ne-eqb (r .start) noPage d) (F .cut c r h e f) }
+
+  from-does : (c : ℕ) → c ≤ 8 → (l : List ℕ) → m .lists c ≡ l → Does w s (fromOutcome w s P c (headOr noPage l)) (fromSlice w s P c (headOr noPage l)) (allocChunk m c l)
+  unfolding fromOutcome fromSlice newOutcome newSlice chunkOutcome chunkSlice pick allocChunk markChunk
+  from-does c h [] e =
+      let D = cut-does c h e (fit 1 (m .runs)) refl in
+      rw (F .fits 1 (omega arith)) D
+  from-does c h (p ∷ rest) e =
+      let d = F .listed c p rest h e in
+      rw (ne-eqb p noPage d, F .low c p rest h e) (record { answer = refl; slice = F .chunk c p rest h e })
+
+  class-does : (c : ℕ) → c ≤ 8 → Does w s (classOutcome w s P c) (classSlice w s P c) (allocFor m (chunkOf c))
+  unfolding classOutcome classSlice allocFor
+  class-does c h = rw (F .first c h) (from-does c h (m .lists c) refl)
+
+  run-does : (k : ℕ) → 1 ≤ k → (f : Option Run) → fit k (m .runs) ≡ f → Does w s (runOutcome (startOf f)) (runSlice w s k (startOf f)) (allocRun m k f)
+  unfolding runOutcome runSlice pick allocRun refuse noRoom
+  run-does k h none f = record { answer = refl; slice = sym (F .same) }
+  run-does k h (some r) f =
+      let (d, l) = F .found k r f in
+      let z : k % 65536 ≡ k = omega arith in
+      record { answer = rw (ne-eqb (r .start) noPage d); slice = rw (ne-eqb (r .start) noPage d, z) (F .run k r h f) }
+
+  pages-does : (k : ℕ) → 1 ≤ k → Does w s (pagesOutcome w s P k) (pagesSlice w s P k) (allocFor m (pages k))
+  unfolding pagesOutcome pagesSlice allocFor
+  pages-does k h = rw (F .fits k h) (run-does k h (fit k (m .runs)) refl)
+
+  pub alloc-does : (n : ℕ) → Does w s (allocOutcome w s P n) (allocSlice w s P n) (alloc m n)
+  unfolding allocOutcome allocSlice alloc needOf pick pagesFor
+  alloc-does n = go (lt? 2048 n)
+    where
+      go : (2048 < n) ⊎ (n ≤ 2048) → Does w s (allocOutcome w s P n) (allocSlice w s P n) (alloc m n)
+      go (inr h) = rw (le-leb n 2048 h, class-is n h) (class-does (classOf n) (class-ok n h))
+      go (inl h) = rw (lt-leb n 2048 h) (pages-does (pagesFor n) (omega arith))
