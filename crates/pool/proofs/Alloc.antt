@@ -23,23 +23,19 @@ use Rattle.lists.specs.Links.{firstOf}
 use Rattle.extents.specs.Extents.{fitIn, runTaken}
 use Rattle.classes.specs.Classes.{chunkRefused}
 use Rattle.chunks.specs.Chunks.{chunkTaken, pageCut}
+use Rattle.freeruns.specs.OnImage.{startOr}
 use Rattle.sizes.specs.Sizes.{classFor}
 use Rattle.sizes.proofs.Laws.{class-is}
 use Rattle.allocating.specs.Allocating.{lowestOn, chunkOutcome, chunkSlice, firstOutcome, cutOutcome, cutSlice, newOutcome, newSlice, fromOutcome, fromSlice, classOutcome, classSlice, runOutcome, runSlice, pagesOutcome, pagesSlice, allocOutcome, allocSlice}
 use Rattle.drawing.specs.Draw.{draw}
 use Rattle.pool.specs.Calls.{outcome}
 
--- the page where a run starts, or none
-abbrev pub startOf : Option Run → ℕ
-startOf none = noPage
-startOf (some r) = r .start
-
 -- what reading and each operation do on the bytes s, which show the state m of P pages
 pub record AllocFacts (w : ℕ) (s : List ℕ) (P : ℕ) (m : State) : Type 0 where
   pub same : draw w s m ≡ s
   pub first : (c : ℕ) → c ≤ 8 → firstOf w s (1 + c) ≡ headOr noPage (m .lists c)
   pub listed : (c p : ℕ) (rest : List ℕ) → c ≤ 8 → m .lists c ≡ p ∷ rest → p ≢ noPage
-  pub fits : (k : ℕ) → 1 ≤ k → fitIn w s P k ≡ startOf (fit k (m .runs))
+  pub fits : (k : ℕ) → 1 ≤ k → fitIn w s P k ≡ startOr (fit k (m .runs))
   pub found : (k : ℕ) (r : Run) → fit k (m .runs) ≡ some r → (r .start ≢ noPage) × (k < 65536)
   pub low : (c p : ℕ) (rest : List ℕ) → c ≤ 8 → m .lists c ≡ p ∷ rest → lowestOn w s P c p ≡ lowest c (marksOf (m .page p))
   pub chunk : (c p : ℕ) (rest : List ℕ) → c ≤ 8 → m .lists c ≡ p ∷ rest →
@@ -55,7 +51,7 @@ pub record Does (w : ℕ) (s : List ℕ) (o : Outcome) (t : List ℕ) (r : Reply
 
 module _ {w : ℕ} {s : List ℕ} {P : ℕ} {m : State} (F : AllocFacts w s P m) where
   -- a new page, or none
-  cut-does : (c : ℕ) → c ≤ 8 → m .lists c ≡ [] → (f : Option Run) → fit 1 (m .runs) ≡ f → Does w s (cutOutcome c (startOf f)) (cutSlice w s P c (startOf f)) (cutPage m c f)
+  cut-does : (c : ℕ) → c ≤ 8 → m .lists c ≡ [] → (f : Option Run) → fit 1 (m .runs) ≡ f → Does w s (cutOutcome c (startOr f)) (cutSlice w s P c (startOr f)) (cutPage m c f)
   unfolding cutOutcome cutSlice firstOutcome pick cutPage refuse noRoom
   cut-does c h e none f = record { answer = refl; slice = F .refuse-chunk c h }
   cut-does c h e (some r) f =
@@ -75,7 +71,7 @@ module _ {w : ℕ} {s : List ℕ} {P : ℕ} {m : State} (F : AllocFacts w s P m)
   unfolding classOutcome classSlice allocFor
   class-does c h = rw (F .first c h) (from-does c h (m .lists c) refl)
 
-  run-does : (k : ℕ) → 1 ≤ k → (f : Option Run) → fit k (m .runs) ≡ f → Does w s (runOutcome (startOf f)) (runSlice w s k (startOf f)) (allocRun m k f)
+  run-does : (k : ℕ) → 1 ≤ k → (f : Option Run) → fit k (m .runs) ≡ f → Does w s (runOutcome (startOr f)) (runSlice w s k (startOr f)) (allocRun m k f)
   unfolding runOutcome runSlice pick allocRun refuse noRoom
   run-does k h none f = record { answer = refl; slice = sym (F .same) }
   run-does k h (some r) f =
