@@ -16,7 +16,7 @@ use Rattle.bitmaps.specs.Bitmap.{bitOf, mark, lowestClear, mapBytes, spl
 use Rattle.bitmaps.proofs.Maps.{map-mark}
 use Rattle.bitmaps.proofs.Marks.{mark-at}
 
-least-ext : (p q : ℕ → Bool) (n : ℕ) → ((i : ℕ) → i < n → p i ≡ q i) → least p n ≡ least q n
+pub least-ext : (p q : ℕ → Bool) (n : ℕ) → ((i : ℕ) → i < n → p i ≡ q i) → least p n ≡ least q n
 least-ext p q n e =
     let t = least-spec p n in
     sym

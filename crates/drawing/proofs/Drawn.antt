@@ -40,7 +40,7 @@ use Rattle.drawing.proofs.Mapped.{length-mapped, mapped-kept, mapped-ke
 use Rattle.drawing.proofs.Encoding.{mark-past, mark-paged, mark-recorded}
 use Rattle.drawing.proofs.Records.{paint-keeps, rule1-holds}
 
-map-small : (x : Page) → mapOf x < 18446744073709551616
+pub map-small : (x : Page) → mapOf x < 18446744073709551616
 map-small idle = lit< tt
 map-small (slab c k) = go (bool? (ltb c 3))
   where

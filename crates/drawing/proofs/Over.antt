@@ -59,7 +59,7 @@ module _ (w P : ℕ) (wide : 2 ≤ w) where
   abbrev onLinks : Image → List ℕ → List ℕ
   onLinks I s = writeAt (linksPlace w) P (λ p. packLinks (I .links p)) s
 
-  paint-over : (I J : Image) (s : List ℕ) → paint w P I (paint w P J s) ≡ paint w P I s
+  pub paint-over : (I J : Image) (s : List ℕ) → paint w P I (paint w P J s) ≡ paint w P I s
   unfolding paint
   paint-over I J s =
       ap (λ (x : List ℕ). onLinks I (onMap I (onTally I (onCounts I x)))) header
@@ -125,9 +125,9 @@ unfolding withWord withHalf
 word-puts = double-puts halves (double-puts pairs (double-puts one one-puts))
 
 -- two lists of one length that have the same byte i
-record Alike (i : ℕ) (s t : List ℕ) : Type 0 where
-  lengths : length s ≡ length t
-  byte : getD s i 0 ≡ getD t i 0
+pub record Alike (i : ℕ) (s t : List ℕ) : Type 0 where
+  pub lengths : length s ≡ length t
+  pub byte : getD s i 0 ≡ getD t i 0
 
 setWord-alike : {s t : List ℕ} (k v i : ℕ) → Alike i s t → Alike i (setWord s k v) (setWord t k v)
 setWord-alike {s} {t} k v i A = record {
@@ -145,7 +145,7 @@ unfolding writeAt
 write-alike at zero f i A = A
 write-alike at (suc n) f i A = setWord-alike (at n) (f n) i (write-alike at n f i A)
 
-paint-alike : {s t : List ℕ} (w P : ℕ) (I : Image) (i : ℕ) → Alike i s t → Alike i (paint w P I s) (paint w P I t)
+pub paint-alike : {s t : List ℕ} (w P : ℕ) (I : Image) (i : ℕ) → Alike i s t → Alike i (paint w P I s) (paint w P I t)
 unfolding paint
 paint-alike w P I i A =
     write-alike (linksPlace w) P _ i
@@ -155,7 +155,7 @@ paint-alike w P I i A =
 
 module _ (w : ℕ) (wide : 2 ≤ w) where
   -- the maps in pages and the records are written in either order
-  mapped-paint : (m : State) (I : Image) (s : List ℕ) → mapped w m (paint w (m .size) I s) ≡ paint w (m .size) I (mapped w m s)
+  pub mapped-paint : (m : State) (I : Image) (s : List ℕ) → mapped w m (paint w (m .size) I s) ≡ paint w (m .size) I (mapped w m s)
   mapped-paint m I s =
       ext-getD 0 _ _ (length-mapped w m t ∙ length-paint w P wide I s ∙ sym (length-mapped w m s) ∙ sym (length-paint w P wide I (mapped w m s)))
       (λ i l. go i (lt? i (pagesFrom w P)))

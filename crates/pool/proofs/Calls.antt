@@ -17,7 +17,8 @@ use Rattle.answers.specs.Outcome.{Outcome, refused}
 use Rattle.answers.specs.declared.Refusal.the-variants.{NotSound}
 use Rattle.bitmaps.specs.Bitmap.{withMark}
 use Rattle.bitmaps.proofs.Marks.{length-withMark, withMark-bytes, withMark-outside}
-use Rattle.model.specs.Classes.{chunk, chunks, own, startsChunk, Need, chunkOf, pages, needOf}
+use Rattle.base.specs.Functions.{upd}
+use Rattle.model.specs.Classes.{chunk, chunks, own, hasTaken, startsChunk, Need, chunkOf, pages, needOf}
 use Rattle.model.specs.State.{Page, idle, slab, taken, inside, edge, State}
 use Rattle.model.specs.WellFormed.{ClassOk, WellFormed}
 use Rattle.model.specs.Calls.{Call, Alloc, Free, Answer, at, freed, no, Reply, noRoom, outside, notTaken, notAStart, refuse, tallied, freeChunk, freeAt, free, step}
@@ -86,12 +87,13 @@ module _ (w : ℕ) (s : List ℕ) where
     cleared-length : (x : Page) → length (clearedAt w s p q x) ≡ length s
     unfolding clearedAt
     cleared-length idle = refl
-    cleared-length (slab c m) = go (startsChunk c q) (m (q / chunk c))
+    cleared-length (slab c m) = go (startsChunk c q) (m (q / chunk c)) (hasTaken c (upd m (q / chunk c) false))
       where
-        go : (t u : Bool) → length (cond t (cond u (withMark s (mapBase w (pagesIn w s) p c) (q / chunk c) false) s) s) ≡ length s
-        go true true = length-withMark s (mapBase w (pagesIn w s) p c) (q / chunk c) false
-        go true false = refl
-        go false u = refl
+        go : (t u v : Bool) → length (cond t (cond u (cond v s (withMark s (mapBase w (pagesIn w s) p c) (q / chunk c) false)) s) s) ≡ length s
+        go true true true = refl
+        go true true false = length-withMark s (mapBase w (pagesIn w s) p c) (q / chunk c) false
+        go true false v = refl
+        go false u v = refl
     cleared-length (taken n) = refl
     cleared-length inside = refl
     cleared-length edge = refl
@@ -99,12 +101,13 @@ module _ (w : ℕ) (s : List ℕ) where
     cleared-bytes : Bytes s → (x : Page) → Bytes (clearedAt w s p q x)
     unfolding clearedAt
     cleared-bytes B idle = B
-    cleared-bytes B (slab c m) = go (startsChunk c q) (m (q / chunk c))
+    cleared-bytes B (slab c m) = go (startsChunk c q) (m (q / chunk c)) (hasTaken c (upd m (q / chunk c) false))
       where
-        go : (t u : Bool) → Bytes (cond t (cond u (withMark s (mapBase w (pagesIn w s) p c) (q / chunk c) false) s) s)
-        go true true = withMark-bytes s (mapBase w (pagesIn w s) p c) (q / chunk c) false B
-        go true false = B
-        go false u = B
+        go : (t u v : Bool) → Bytes (cond t (cond u (cond v s (withMark s (mapBase w (pagesIn w s) p c) (q / chunk c) false)) s) s)
+        go true true true = B
+        go true true false = withMark-bytes s (mapBase w (pagesIn w s) p c) (q / chunk c) false B
+        go true false v = B
+        go false u v = B
     cleared-bytes B (taken n) = B
     cleared-bytes B inside = B
     cleared-bytes B edge = B
@@ -127,7 +130,7 @@ module _ (w : ℕ) (s : List ℕ) where
     where
       go : (t u : Bool) →
           (cond t (cond u (record { answer = freed (chunk c); after = freeChunk m p c b (q / chunk c) }) (refuse m notTaken)) (refuse m notAStart)) .answer ≡ no k →
-          cond t (cond u (withMark s (mapBase w (pagesIn w s) p c) (q / chunk c) false) s) s ≡ s
+          cond t (cond u (cond (hasTaken c (upd b (q / chunk c) false)) s (withMark s (mapBase w (pagesIn w s) p c) (q / chunk c) false)) s) s ≡ s
       go true true e = absurd (never (cc))
       go true false e = refl
       go false u e = refl
@@ -171,7 +174,7 @@ module _ (w : ℕ) (wide : 2 ≤ w) (narrow : w ≤ 255) (s : List ℕ) (B : Byt
       unfolding answered
       sound-answer = pick-yes _ _ _ (eq-eqb (brokenRule w s) 0 sound)
 
-      drawn-after : after w s call ≡ draw w (cleared w s call) (step m call .after)
+      pub drawn-after : after w s call ≡ draw w (cleared w s call) (step m call .after)
       unfolding after
       drawn-after = pick-yes _ _ _ (eq-eqb (brokenRule w s) 0 sound)
 
@@ -315,12 +318,14 @@ module _ (w : ℕ) (wide : 2 ≤ w) (narrow : w ≤ 255) (s : List ℕ) (B : Byt
     cleared-kept : (p q : ℕ) (x : Page) → m .page p ≡ x → (i : ℕ) → from ≤ i → inMap from m i ≡ false → getD (clearedAt w s p q x) i 0 ≡ getD s i 0
     unfolding clearedAt
     cleared-kept p q idle e i h out = refl
-    cleared-kept p q (slab c b) e i h out = go (startsChunk c q) (b (q / chunk c)) refl
+    cleared-kept p q (slab c b) e i h out = go (startsChunk c q) (b (q / chunk c)) (hasTaken c (upd b (q / chunk c) false)) refl
       where
-        go : (t u : Bool) → b (q / chunk c) ≡ u → getD (cond t (cond u (withMark s (mapBase w (pagesIn w s) p c) (q / chunk c) false) s) s) i 0 ≡ getD s i 0
-        go true true y = withMark-outside s (mapBase w (pagesIn w s) p c) (q / chunk c) false i (mark-apart p q c b e y i h out)
-        go true false y = refl
-        go false u y = refl
+        go : (t u v : Bool) → b (q / chunk c) ≡ u →
+            getD (cond t (cond u (cond v s (withMark s (mapBase w (pagesIn w s) p c) (q / chunk c) false)) s) s) i 0 ≡ getD s i 0
+        go true true true y = refl
+        go true true false y = withMark-outside s (mapBase w (pagesIn w s) p c) (q / chunk c) false i (mark-apart p q c b e y i h out)
+        go true false v y = refl
+        go false u v y = refl
     cleared-kept p q (taken n) e i h out = refl
     cleared-kept p q inside e i h out = refl
     cleared-kept p q edge e i h out = refl

@@ -76,7 +76,7 @@ module _ (w : ℕ) (wide : 2 ≤ w) (narrow : w ≤ 255) (s : List ℕ) (B : Byt
   unfolding draw stateImage firstIn pick
   first-page c h =
       let x : firstOf w (draw w s m) (1 + c) ≡ firstIn (stateImage m) (1 + c) =
-          first-shown w (m .size) wide narrow (omega (arith, fitting .few)) (mapped w m s) room (state-fits W small) (1 + c) (omega arith) in
+      first-shown w (m .size) wide narrow (omega (arith, fitting .few)) (mapped w m s) room (state-fits W small) (1 + c) (omega arith) in
       let k : 1 + c - 1 ≡ c = omega arith in
       sym (ap (λ (t : List ℕ). firstOf w t (1 + c)) same) ∙ x ∙ rw (ne-eqb (1 + c) 0 (omega arith), k)
 
@@ -85,7 +85,7 @@ module _ (w : ℕ) (wide : 2 ≤ w) (narrow : w ≤ 255) (s : List ℕ) (B : Byt
   links-are p h =
       let l : p < m .size = omega (arith, fitting .size) in
       let x : linksAt w (draw w s m) p ≡ stateImage m .links p =
-          links-shown w (m .size) wide (stateImage m) (mapped w m s) room p l (state-fits W small .links p l) in
+      links-shown w (m .size) wide (stateImage m) (mapped w m s) room p l (state-fits W small .links p l) in
       sym (ap (λ (t : List ℕ). linksAt w t p) same) ∙ x
 
   pub fit-is : (k : ℕ) → fitIn w s (pagesIn w s) k ≡ startOr (fit k (m .runs))
@@ -128,7 +128,7 @@ module _ (w : ℕ) (wide : 2 ≤ w) (narrow : w ≤ 255) (s : List ℕ) (B : Byt
       let k : fieldsOf w s .image .links p .kind ≡ 2 = ap (λ (x : Links). x .kind) lk in
       let A = drawn-shows w wide s m (fitting .size) narrow W small B in
       let M : markAt w s p (linksAt w s p .class) ≡ (λ j. marksOf (m .page p) j) =
-          subst (λ (t : List ℕ). fieldsOf w t .image .links p .kind ≡ 2 → markAt w t p (linksAt w t p .class) ≡ (λ j. marksOf (m .page p) j)) same (λ z. A .marks p l z) k in
+      subst (λ (t : List ℕ). fieldsOf w t .image .links p .kind ≡ 2 → markAt w t p (linksAt w t p .class) ≡ (λ j. marksOf (m .page p) j)) same (λ z. A .marks p l z) k in
       let cl : linksAt w s p .class ≡ c = ap (λ (x : Links). x .class) lk in
       sym (ap (λ (t : Bool). pick t (mark s (mapBase w (pagesIn w s) p c) i) false) (lt-ltb i (chunks c) h))
       ∙ sym (ap (λ (d : ℕ). markAt w s p d i) cl) ∙ ap (λ (f : ℕ → Bool). f i) M ∙ ap (λ (x : Page). marksOf x i) e

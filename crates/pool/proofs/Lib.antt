@@ -2,6 +2,7 @@ pub mod Shown
 pub mod Calls
 pub mod Demands
 pub mod Examples
-pub mod Alloc
-pub mod Free
+pub mod Allocs
+pub mod Frees
 pub mod Facts
+pub mod Steps

@@ -7,7 +7,8 @@ use Rattle.base.specs.Tests.{pick}
 use Rattle.answers.specs.Outcome.{Outcome, granted, refused}
 use Rattle.answers.specs.declared.Refusal.the-variants.{NotSound}
 use Rattle.bitmaps.specs.Bitmap.{withMark}
-use Rattle.model.specs.Classes.{chunk, startsChunk}
+use Rattle.base.specs.Functions.{upd}
+use Rattle.model.specs.Classes.{chunk, hasTaken, startsChunk}
 use Rattle.model.specs.State.{Page, idle, slab, taken, inside, edge, State}
 use Rattle.model.specs.Calls.{Call, Alloc, Free, Answer, at, freed, no, step}
 use Rattle.rules.specs.Bytes.{pagesIn, mapBase, brokenRule, read}
@@ -23,11 +24,14 @@ outcome (no k) = record { number = k; value = 0 }
 unfoldable pub answered : ℕ → List ℕ → Call → Outcome
 answered w s call = pick (eqb (brokenRule w s) 0) (outcome (step (read w s) call .answer)) (refused NotSound)
 
--- A chunk that is freed has its mark cleared before its page may be released, and the mark stays cleared in the page's bytes.
+-- The last chunk of a page that is freed has its mark cleared before the page is released, and the mark stays cleared in the page's bytes.
+-- Where other chunks stay taken the drawing has the mark.
 unfoldable pub clearedAt : ℕ → List ℕ → ℕ → ℕ → Page → List ℕ
 clearedAt w s p q idle = s
 clearedAt w s p q (slab c m) =
-    cond (startsChunk c q) (cond (m (q / chunk c)) (withMark s (mapBase w (pagesIn w s) p c) (q / chunk c) false) s) s
+    cond (startsChunk c q)
+    (cond (m (q / chunk c)) (cond (hasTaken c (upd m (q / chunk c) false)) s (withMark s (mapBase w (pagesIn w s) p c) (q / chunk c) false)) s)
+    s
 clearedAt w s p q (taken n) = s
 clearedAt w s p q inside = s
 clearedAt w s p q edge = s

@@ -9,7 +9,8 @@ ghost use Rattle.rules.specs.Bytes.{pagesIn, fieldsOf, rule1, brokenRule};
 ghost use Rattle.totals.specs.Scanned.{Scanned};
 ghost use Rattle.validate.specs.Broken.{fromRule2, fromRule3};
 
-fn page_count(w: u8, len: usize) -> usize
+// The page count that a length gives.
+pub fn page_count(w: u8, len: usize) -> usize
     ensures { λ r. ⌜ r ≡ pageCount w len ⌝ }
 {
     tests::minus(len, 8 + 72 * w as usize) / 4112

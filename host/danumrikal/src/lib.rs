@@ -7,9 +7,14 @@
 //! takes their answers apart.
 //!
 //! ```
-//! let mut bytes = vec![0; 49_496];
-//! assert_eq!(danumrikal::format(&mut bytes), Ok(12));
-//! assert_eq!(danumrikal::format(&mut bytes[..4_263]).unwrap_err().number(), 1);
+//! let mut pool = vec![0; 49_496];
+//! assert_eq!(danumrikal::format(&mut pool), Ok(12));
+//! let block = danumrikal::alloc(&mut pool, 30)?;
+//! assert_eq!(block, 32);
+//! danumrikal::free(&mut pool, block)?;
+//! assert_eq!(danumrikal::free(&mut pool, block).unwrap_err().number(), 6);
+//! assert!(danumrikal::validate(&pool));
+//! # Ok::<(), danumrikal::Refusal>(())
 //! ```
 
 #![warn(missing_docs)]
@@ -60,4 +65,25 @@ fn answer(word: u64) -> Result<u32, Refusal> {
 /// Page bytes and the tail stay as they are. A refused slice stays whole.
 pub fn format(pool: &mut [u8]) -> Result<u32, Refusal> {
     answer(abi::format(pool))
+}
+
+/// The number of the first rule that the records break; 0 where they are sound.
+pub fn broken_rule(pool: &[u8]) -> u8 {
+    abi::validate(pool) as u8
+}
+
+/// Whether the records are sound.
+pub fn validate(pool: &[u8]) -> bool {
+    broken_rule(pool) == 0
+}
+
+/// Takes a block of at least `size` bytes and answers its offset, counted from
+/// the first page.
+pub fn alloc(pool: &mut [u8], size: u32) -> Result<u32, Refusal> {
+    answer(abi::alloc(pool, size))
+}
+
+/// Gives back the block that starts at `offset`.
+pub fn free(pool: &mut [u8], offset: u32) -> Result<(), Refusal> {
+    answer(abi::free(pool, offset)).map(|_| ())
 }

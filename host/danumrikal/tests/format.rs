@@ -1,20 +1,11 @@
 //! Format against the second program: answer and every byte of the slice.
 
-/// Bytes that look like nothing, so that untouched ones can be told.
-fn noise(len: usize, seed: u64) -> Vec<u8> {
-    let mut state = seed | 1;
-    (0..len)
-        .map(|_| {
-            state ^= state << 13;
-            state ^= state >> 7;
-            state ^= state << 17;
-            (state >> 24) as u8
-        })
-        .collect()
-}
+mod support;
+
+use support::Rng;
 
 fn same(len: usize, seed: u64) {
-    let mut ours = noise(len, seed);
+    let mut ours = Rng::new(seed).bytes(len);
     let mut theirs = ours.clone();
     let left = danumrikal::format(&mut ours).map_err(|refusal| refusal.number());
     let right = reference::format(&mut theirs).map_err(|refusal| refusal.number());

@@ -16,7 +16,8 @@ use Rattle.records.specs.Page.{linksAt}
 use Rattle.answers.specs.Outcome.{Outcome, granted, refused}
 use Rattle.answers.specs.declared.Refusal.the-variants.{Outside, NotTaken, NotAStart}
 use Rattle.bitmaps.specs.Bitmap.{withMark}
-use Rattle.model.specs.Classes.{chunk, chunks, own, startsChunk}
+use Rattle.base.specs.Functions.{upd}
+use Rattle.model.specs.Classes.{chunk, chunks, own, hasTaken, startsChunk}
 use Rattle.model.specs.State.{Page, idle, slab, taken, inside, edge, State}
 use Rattle.model.specs.Runs.{startsAt}
 use Rattle.model.specs.Calls.{Answer, freed, no, Reply, outside, notTaken, notAStart, refuse, release, freeChunk, freeAt, free}
@@ -27,7 +28,7 @@ use Rattle.chunks.specs.Chunks.{chunkFreed}
 use Rattle.freeing.specs.Freeing.{marked, markOutcome, markSlice, pastOutcome, pastSlice, startOutcome, startSlice, sizedOutcome, sizedSlice, offsetOutcome, offsetSlice, chunkOutcome, chunkSlice, runOutcome, runSlice, kindOutcome, kindSlice, pageOutcome, pageSlice, freeOutcome, freeSlice}
 use Rattle.drawing.specs.Draw.{draw}
 use Rattle.pool.specs.Calls.{outcome, clearedAt}
-use Rattle.pool.proofs.Alloc.{Does}
+use Rattle.pool.proofs.Allocs.{Does}
 
 -- what reading and each operation do on the bytes s, which show the state m
 pub record FreeFacts (w : ℕ) (s : List ℕ) (m : State) : Type 0 where
@@ -42,7 +43,7 @@ pub record FreeFacts (w : ℕ) (s : List ℕ) (m : State) : Type 0 where
   pub few-chunks : (c : ℕ) → c ≤ 8 → chunks c ≤ 512
   pub mark : (p c i : ℕ) (b : ℕ → Bool) → p < pagesIn w s → m .page p ≡ slab c b → i < chunks c → marked w s (pagesIn w s) c p i ≡ b i
   pub chunk : (p c i : ℕ) (b : ℕ → Bool) → m .page p ≡ slab c b → own c ≤ i → i < chunks c → b i ≡ true →
-      chunkFreed w s (pagesIn w s) c p i ≡ draw w (withMark s (mapBase w (pagesIn w s) p c) i false) (freeChunk m p c b i)
+      chunkFreed w s (pagesIn w s) c p i ≡ draw w (cond (hasTaken c (upd b i false)) s (withMark s (mapBase w (pagesIn w s) p c) i false)) (freeChunk m p c b i)
   pub run : (p n : ℕ) → m .page p ≡ taken n → pagesReleased w s (pagesIn w s) p n ≡ draw w s (release m p n)
 
 module _ {w : ℕ} {s : List ℕ} {m : State} (F : FreeFacts w s m) where

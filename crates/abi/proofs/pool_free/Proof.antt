@@ -1,0 +1,21 @@
+use mathlib.Core.Path.{_∙_, ap}
+use Rattle.answers.specs.Outcome.{Outcome}
+use Rattle.abi.specs.Word.{wordOf}
+use borrow.Author.Needs.{needs}
+use Rattle.abi.proofs.pool_free.Statement.{statement}
+use Rattle.abi.proofs.pool_free.Tie as tie
+
+free-requires : tie.Need-free-requires
+free-requires c κs = search needs
+
+freed-word-requires : tie.Need-freed-word-requires
+freed-word-requires c κs = search needs
+
+same-length : tie.Need-same-length
+same-length c = search needs
+
+returns : tie.Need-returns
+returns c = (c .freed-word .ensures ∙ ap wordOf (c .before .before .before .free .ensures .0), c .before .before .before .free .ensures .1)
+
+pub pool-free-spec : {M : Type 1} → statement M
+pool-free-spec = tie.close (tie.spec free-requires freed-word-requires same-length returns)

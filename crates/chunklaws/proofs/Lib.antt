@@ -1,0 +1,11 @@
+pub mod Counts
+pub mod Maps
+pub mod Lists
+pub mod Next
+pub mod Refused
+pub mod Remarked
+pub mod Taken
+pub mod Kept
+pub mod Cut
+pub mod Dropped
+pub mod Laws

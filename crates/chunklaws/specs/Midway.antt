@@ -1,0 +1,21 @@
+-- Between two states: lists are changed first, and counts and maps are those of the state before. Assumes nothing.
+use Prim.Native.Nat.{ℕ}
+use Rattle.base.specs.Functions.{upd}
+use Rattle.model.specs.State.{Page, State}
+use Rattle.image.specs.Image.{Image}
+use Rattle.lists.specs.Links.{firstTo}
+use Rattle.rules.specs.Drawn.{stateImage}
+
+-- the lists, free pages and links of n, the counts and maps of m
+abbrev pub midway : State → State → Image
+midway m n = record {
+  freePages = stateImage n .freePages;
+  firstRun = stateImage n .firstRun;
+  class = λ d. firstTo (stateImage m .class d) (stateImage n .class d .first .0);
+  map = stateImage m .map;
+  links = stateImage n .links;
+}
+
+-- m with x as page p
+abbrev pub withPage : State → ℕ → Page → State
+withPage m p x = record { size = m .size; page = upd (m .page) p x; runs = m .runs; lists = m .lists; tally = m .tally }

@@ -1,0 +1,1 @@
+// What the operations on chunks do to a drawing: laws only.

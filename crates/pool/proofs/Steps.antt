@@ -1,0 +1,145 @@
+-- The code's steps on the bytes of a sound pool give the answer and the slice that the calls promise. Assumes nothing.
+use mathlib.Core.Path.{_≡_, refl, sym, ap, _∙_}
+use mathlib.Core.Logic.{_⊎_, inl, inr, _≢_}
+use mathlib.Core.Bool.{Bool, true, false, cond, not}
+use mathlib.Core.Option.{some}
+use mathlib.Core.List.{List, [], _∷_}
+use Prim.Native.Nat.{ℕ, _+_, _-_, _*_, _/_, _%_, _≤_, _<_}
+use native.Mathlib.Nat.{div-add-mod', mul-comm}
+use native.Mathlib.Omega.{arith}
+use lib.Dec.{eqb}
+use lib.ListN.{length}
+use lib.Pow.{pow-mono}
+use borrow.Author.Tests.{eqb-true, not-true, not-false}
+use Rattle.base.specs.Functions.{upd}
+use Rattle.base.proofs.Cases.{bool?}
+use Rattle.base.proofs.AllBelow.{pick-no}
+use Rattle.words.specs.Word.{Bytes}
+use Rattle.records.specs.Layout.{pageCount}
+use Rattle.answers.specs.Outcome.{Outcome, refused}
+use Rattle.answers.specs.declared.Refusal.the-variants.{NotSound}
+use Rattle.bitmaps.specs.Bitmap.{withMark}
+use Rattle.model.specs.Classes.{chunk, chunks, own, lowest, hasTaken}
+use Rattle.model.specs.State.{State, slab, marksOf}
+use Rattle.model.specs.WellFormed.{WellFormed}
+use Rattle.model.specs.Calls.{Call, Alloc, Free, keepPage, dropPage, freeChunk, step}
+use Rattle.model.proofs.Classes.{chunk-index}
+use Rattle.rules.specs.Bytes.{pagesIn, mapBase, brokenRule, read}
+use Rattle.drawing.specs.Draw.{mapHas, draw}
+use Rattle.drawing.specs.Claim.{Fitting}
+use Rattle.drawing.proofs.Laws.{claims as laws-of}
+use Rattle.chunks.specs.Chunks.{chunkTaken, pageCut, chunkFreed}
+use Rattle.classes.specs.Classes.{chunkRefused}
+use Rattle.extents.specs.Extents.{runTaken}
+use Rattle.coalesce.specs.Release.{pagesReleased}
+use Rattle.chunklaws.specs.Claim.{Laws}
+use Rattle.chunklaws.proofs.Laws.{claims as chunk-laws}
+use Rattle.freeruns.proofs.Drawn.{run-taken, run-released}
+use Rattle.allocating.specs.Allocating.{allocOutcome, allocSlice}
+use Rattle.freeing.specs.Freeing.{marked, freeOutcome, freeSlice}
+use Rattle.pool.specs.Calls.{outcome, answered, cleared, after}
+use Rattle.pool.proofs.Calls.{sound-answer, drawn-after}
+use Rattle.pool.proofs.Allocs.{AllocFacts, Does, alloc-does}
+use Rattle.pool.proofs.Frees.{FreeFacts, free-does}
+use Rattle.pool.proofs.Facts.{fitting, same, few, first-page, links-are, fit-is, past, ends, listed-page, run-found, marks-are, lowest-is, listed-slab}
+
+module _ (w : ℕ) (wide : 2 ≤ w) (narrow : w ≤ 255) (s : List ℕ) (B : Bytes s) (sound : brokenRule w s ≡ 0) where
+  abbrev m : State
+  m = read w s
+
+  F : Fitting w s m
+  F = fitting w wide narrow s B sound
+
+  small : m .size ≤ 4096
+  small = omega (arith, F .few)
+
+  L : Laws w s m
+  L = chunk-laws w wide narrow s B m (F .well) (F .size) small
+
+  -- the pool is the drawing of its state
+  on : {A : Type 0} (f : List ℕ → ℕ → A) → f s (pagesIn w s) ≡ f (draw w s m) (m .size)
+  on f = sym (ap (λ (t : List ℕ). f t (pagesIn w s)) (same w wide narrow s B sound)) ∙ sym (ap (f (draw w s m)) (F .size))
+
+  alloc-facts : AllocFacts w s (pagesIn w s) m
+  alloc-facts = record {
+    same = same w wide narrow s B sound;
+    first = first-page w wide narrow s B sound;
+    listed = λ c p rest h e. listed-page w wide narrow s B sound c p rest e;
+    fits = λ k h. fit-is w wide narrow s B sound k;
+    found = run-found w wide narrow s B sound;
+    low = λ c p rest h e. lowest-is w wide narrow s B sound c p (marksOf (m .page p)) (listed-slab w wide narrow s B sound c p rest e);
+    chunk = λ c p rest h e.
+        on (λ t n. chunkTaken w t n c p (lowest c (marksOf (m .page p))))
+        ∙ L .taken p c (marksOf (m .page p)) rest (listed-slab w wide narrow s B sound c p rest e) e;
+    cut = λ c r h e f. on (λ t n. pageCut w t n c (r .start)) ∙ L .cut c r h e f;
+    refuse-chunk = λ c h. on (λ t n. chunkRefused w t c) ∙ L .refused c h;
+    run = λ k r h f. on (λ t n. runTaken w t (r .start) k) ∙ run-taken w wide narrow (F .well) small s (F .size) k h r f;
+  }
+
+  free-facts : FreeFacts w s m
+  unfolding marked freeChunk
+  free-facts = record {
+    same = same w wide narrow s B sound;
+    few = few w wide narrow s B sound;
+    past = past w wide narrow s B sound;
+    ends = ends w wide narrow s B sound;
+    links = links-are w wide narrow s B sound;
+    class = λ p c b e. (rw e at (F .well .table .each p)) .in-range;
+    index = λ c q h l. chunk-index c h (q / chunk c) (omega (arith, div-add-mod' q (chunk c), mul-comm (chunk c) (q / chunk c)));
+    few-chunks = λ c h. unfold chunks in pow-mono {i = 9 - c} {j = 9} (omega arith);
+    mark = λ p c i b h e l. marks-are w wide narrow s B sound p c b e i l;
+    chunk = chunk-back;
+    run = λ p n e. on (λ t k. pagesReleased w t k p n) ∙ run-released w wide narrow (F .well) small s (F .size) p n e;
+  }
+    where
+      chunk-back : (p c i : ℕ) (b : ℕ → Bool) → m .page p ≡ slab c b → own c ≤ i → i < chunks c → b i ≡ true →
+          chunkFreed w s (pagesIn w s) c p i ≡ draw w (cond (hasTaken c (upd b i false)) s (withMark s (mapBase w (pagesIn w s) p c) i false)) (freeChunk m p c b i)
+      chunk-back p c i b e h l t = go (bool? (hasTaken c (upd b i false)))
+        where
+          go : (hasTaken c (upd b i false) ≡ true) ⊎ (hasTaken c (upd b i false) ≡ false) →
+              chunkFreed w s (pagesIn w s) c p i ≡ draw w (cond (hasTaken c (upd b i false)) s (withMark s (mapBase w (pagesIn w s) p c) i false)) (freeChunk m p c b i)
+          go (inl y) = rw y (on (λ x n. chunkFreed w x n c p i) ∙ L .kept p c b i e h l t y)
+          go (inr y) =
+              rw y
+              (on (λ x n. chunkFreed w x n c p i) ∙ L .dropped p c b i e h l t y
+              ∙ sym (on (λ x n. draw w (withMark x (mapBase w n p c) i false) (dropPage m p c b))))
+
+  pub alloc-met : (n : ℕ) → (allocOutcome w s (pagesIn w s) n ≡ answered w s (Alloc n)) × (allocSlice w s (pagesIn w s) n ≡ after w s (Alloc n))
+  unfolding cleared step
+  alloc-met n =
+      let D = alloc-does alloc-facts n in
+      (D .answer ∙ sym (sound-answer w wide narrow s B sound (Alloc n)), D .slice ∙ sym (drawn-after w wide narrow s B sound (Alloc n)))
+
+  pub free-met : (off : ℕ) → (freeOutcome w s (pagesIn w s) off ≡ answered w s (Free off)) × (freeSlice w s (pagesIn w s) off ≡ after w s (Free off))
+  unfolding cleared step
+  free-met off =
+      let D = free-does free-facts off in
+      (D .answer ∙ sym (sound-answer w wide narrow s B sound (Free off)), D .slice ∙ sym (drawn-after w wide narrow s B sound (Free off)))
+
+-- ---- from what validation answers
+
+pub refused-unsound : (s : List ℕ) (call : Call) (t : Bool) → t ≡ eqb (brokenRule 2 s) 0 → not t ≡ true →
+    (refused NotSound ≡ answered 2 s call) × (s ≡ after 2 s call)
+unfolding answered after
+refused-unsound s call t e n =
+    let f : eqb (brokenRule 2 s) 0 ≡ false = sym e ∙ not-true t n in
+    (sym (pick-no _ _ _ f), sym (pick-no _ _ _ f))
+
+module _ (s : List ℕ) (B : Bytes s) (t : Bool) (e : t ≡ eqb (brokenRule 2 s) 0) (n : not t ≡ false) (pages : ℕ) (p : pages ≡ pageCount 2 (length s) % 65536) where
+  sound : brokenRule 2 s ≡ 0
+  sound = eqb-true _ _ (sym e ∙ not-false t n)
+
+  pages-are : pages ≡ pagesIn 2 s
+  pages-are = p ∙ omega (arith, few 2 (omega arith) (omega arith) s B sound)
+
+  pub alloc-steps : (size : ℕ) (o : Outcome) (u : List ℕ) → o ≡ allocOutcome 2 s pages size → u ≡ allocSlice 2 s pages size →
+      (o ≡ answered 2 s (Alloc size)) × (u ≡ after 2 s (Alloc size))
+  alloc-steps size o u a b =
+      let M = alloc-met 2 (omega arith) (omega arith) s B sound size in
+      (a ∙ ap (λ (k : ℕ). allocOutcome 2 s k size) pages-are ∙ M .0, b ∙ ap (λ (k : ℕ). allocSlice 2 s k size) pages-are ∙ M .1)
+
+  pub free-steps : (off : ℕ) (o : Outcome) (u : List ℕ) → o ≡ freeOutcome 2 s pages off → u ≡ freeSlice 2 s pages off →
+      (o ≡ answered 2 s (Free off)) × (u ≡ after 2 s (Free off))
+  free-steps off o u a b =
+      let M = free-met 2 (omega arith) (omega arith) s B sound off in
+      (a ∙ ap (λ (k : ℕ). freeOutcome 2 s k off) pages-are ∙ M .0, b ∙ ap (λ (k : ℕ). freeSlice 2 s k off) pages-are ∙ M .1)
