@@ -78,7 +78,10 @@ fn play(pages: usize, calls: usize, seed: u64) {
                 assert!(pair.free(offset).is_err(), "freed twice");
             }
         } else {
-            let _ = pair.free(rng.below(4_096 * (pages as u64 + 1)) as u32);
+            let offset = rng.below(4_096 * (pages as u64 + 1)) as u32;
+            let granted = pair.free(offset).is_ok();
+            assert_eq!(granted, live.contains(&offset), "free {offset}");
+            live.retain(|&block| block != offset);
         }
     }
     assert_eq!(pair.validate(), 0);
