@@ -1,5 +1,8 @@
 //! Numbers that look random and are the same in every run.
 
+// Each test file uses a part of this.
+#![allow(dead_code)]
+
 /// A xorshift generator.
 pub struct Rng(u64);
 

@@ -1,0 +1,254 @@
+//! A broken example for each rule, and the number that it earns: the table of
+//! `docs/RULES.md`, which this test holds against what the pool answers.
+
+mod support;
+
+use support::Rng;
+
+const PAGES: usize = 8;
+const NONE: u64 = 65_535;
+
+/// A damage to a sound pool of eight pages.
+type Damage = fn(&mut Vec<u8>);
+
+fn word(pool: &[u8], at: usize) -> u64 {
+    u64::from_be_bytes(pool[at..at + 8].try_into().expect("eight bytes"))
+}
+
+/// Sets `width` bits of the word at a byte, `low` bits from its end.
+fn set(pool: &mut [u8], at: usize, low: u32, width: u32, value: u64) {
+    let mask = ((1 << width) - 1) << low;
+    let new = word(pool, at) & !mask | value << low;
+    pool[at..at + 8].copy_from_slice(&new.to_be_bytes());
+}
+
+fn header(pool: &mut [u8], low: u32, width: u32, value: u64) {
+    set(pool, 0, low, width, value);
+}
+
+/// First page, used and total of a class.
+fn counts(pool: &mut [u8], class: usize, low: u32, width: u32, value: u64) {
+    set(pool, 8 + 16 * class, low, width, value);
+}
+
+fn map(pool: &mut [u8], page: usize, value: u64) {
+    let at = 152 + 16 * page;
+    pool[at..at + 8].copy_from_slice(&value.to_be_bytes());
+}
+
+/// A field of a page record but its map.
+fn field(pool: &mut [u8], page: usize, low: u32, width: u32, value: u64) {
+    set(pool, 160 + 16 * page, low, width, value);
+}
+
+fn kind(pool: &mut [u8], page: usize, value: u64) {
+    field(pool, page, 61, 3, value);
+}
+
+fn class(pool: &mut [u8], page: usize, value: u64) {
+    field(pool, page, 57, 4, value);
+}
+
+fn run(pool: &mut [u8], page: usize, value: u64) {
+    field(pool, page, 41, 16, value);
+}
+
+fn next(pool: &mut [u8], page: usize, value: u64) {
+    field(pool, page, 25, 16, value);
+}
+
+fn previous(pool: &mut [u8], page: usize, value: u64) {
+    field(pool, page, 9, 16, value);
+}
+
+/// Page 0 of class 8, page 1 free, page 2 full of class 2,048, pages 3 and 4 a
+/// taken run, pages 5 to 7 free; the list of free runs is 1, 5.
+fn sound() -> Vec<u8> {
+    let mut pool = vec![0; 152 + 4_112 * PAGES + 100];
+    danumrikal::format(&mut pool).expect("eight pages");
+    let mut alloc = |size| danumrikal::alloc(&mut pool, size).expect("room");
+    assert_eq!(alloc(8), 64);
+    let chunk = alloc(64);
+    assert_eq!((alloc(2_048), alloc(2_048)), (8_192, 10_240));
+    assert_eq!(alloc(8_192), 12_288);
+    danumrikal::free(&mut pool, chunk).expect("a live block");
+    pool
+}
+
+const CASES: &[(&str, Damage)] = &[
+    ("nothing is damaged", |_| {}),
+    ("callers' bytes and the tail hold anything", |pool| {
+        let start = 152 + 16 * PAGES;
+        let end = pool.len();
+        pool[start + 64..start + 4_096].fill(0xa5);
+        pool[start + 4_096..end].fill(0x5a);
+    }),
+    (
+        "reqs and fails of every class are the largest numbers",
+        |pool| {
+            for class in 0..9 {
+                pool[16 + 16 * class..24 + 16 * class].fill(0xff);
+            }
+        },
+    ),
+    ("the slice is empty", |pool| pool.clear()),
+    ("the slice is all zero", |pool| pool.fill(0)),
+    ("the slice is all ones", |pool| pool.fill(0xff)),
+    ("random bytes", |pool| *pool = Rng::new(5).bytes(49_496)),
+    ("one byte too few for a page", |pool| pool.truncate(4_263)),
+    ("a page fewer than the header says", |pool| {
+        pool.truncate(152 + 4_112 * 7)
+    }),
+    ("a page more than the header says", |pool| {
+        pool.resize(152 + 4_112 * 9, 0)
+    }),
+    ("as long as 257 pages", |pool| pool.resize(1_056_936, 0)),
+    ("edition 0", |pool| header(pool, 56, 8, 0)),
+    ("edition 2", |pool| header(pool, 56, 8, 2)),
+    ("smallest shift 4", |pool| header(pool, 52, 4, 4)),
+    ("page shift 11", |pool| header(pool, 48, 4, 11)),
+    ("page count 7 in the header", |pool| header(pool, 32, 16, 7)),
+    ("a page of kind 5", |pool| kind(pool, 3, 5)),
+    ("a free page has a class", |pool| class(pool, 5, 1)),
+    ("a free page has a map field", |pool| map(pool, 6, 1)),
+    ("a free run of no page", |pool| run(pool, 1, 0)),
+    ("a free run shorter than its pages", |pool| run(pool, 5, 2)),
+    ("a free run past the last page", |pool| run(pool, 5, 4)),
+    ("two free runs touch", |pool| {
+        run(pool, 5, 1);
+        kind(pool, 6, 1);
+        run(pool, 6, 2);
+        previous(pool, 7, 6);
+    }),
+    ("the last page of a free run does not lead back", |pool| {
+        previous(pool, 7, NONE)
+    }),
+    ("an inner page of a free run has a previous", |pool| {
+        previous(pool, 6, 5)
+    }),
+    ("a page inside a free run has a next", |pool| {
+        next(pool, 6, 0)
+    }),
+    ("a taken run shorter than its pages", |pool| run(pool, 3, 1)),
+    ("a taken run has a next", |pool| next(pool, 3, 0)),
+    ("a page inside a taken run has a previous", |pool| {
+        previous(pool, 4, 3)
+    }),
+    ("a page inside a free run among a taken one", |pool| {
+        kind(pool, 4, 0)
+    }),
+    ("a class page of class 9", |pool| class(pool, 2, 9)),
+    ("a class page has a run length", |pool| run(pool, 0, 1)),
+    ("a chunk of the map is not marked", |pool| {
+        pool[152 + 16 * PAGES] = 0x7f
+    }),
+    ("a page of class 8 has a map field", |pool| map(pool, 0, 1)),
+    ("an unused low bit of a map is set", |pool| {
+        map(pool, 2, 0xc000_0000_0000_0001)
+    }),
+    ("a zero bit of a page record is set", |pool| {
+        field(pool, 7, 0, 1, 1)
+    }),
+    ("no free run is listed", |pool| header(pool, 0, 16, NONE)),
+    ("the first free run is a taken page", |pool| {
+        header(pool, 0, 16, 3)
+    }),
+    ("the first free run is inside one", |pool| {
+        header(pool, 0, 16, 6)
+    }),
+    ("the first free run is page 8 of 8", |pool| {
+        header(pool, 0, 16, 8)
+    }),
+    ("the first free run is page 60000", |pool| {
+        header(pool, 0, 16, 60_000)
+    }),
+    ("the list of free runs ends early", |pool| {
+        next(pool, 1, NONE)
+    }),
+    ("the list of free runs is a ring", |pool| next(pool, 5, 1)),
+    ("a free run is its own next", |pool| next(pool, 1, 1)),
+    ("the free runs' links are crossed", |pool| {
+        next(pool, 5, 1);
+        next(pool, 1, NONE);
+    }),
+    ("previous does not lead back", |pool| {
+        previous(pool, 5, NONE)
+    }),
+    ("the first free run has a previous", |pool| {
+        previous(pool, 1, 5)
+    }),
+    ("a page with a free chunk is on no list", |pool| {
+        counts(pool, 0, 48, 16, NONE)
+    }),
+    ("a class list begins with a free page", |pool| {
+        counts(pool, 0, 48, 16, 1)
+    }),
+    ("a class list begins with page 8 of 8", |pool| {
+        counts(pool, 0, 48, 16, 8)
+    }),
+    ("a class without pages has a first page", |pool| {
+        counts(pool, 4, 48, 16, 2)
+    }),
+    ("two lists share a page", |pool| counts(pool, 1, 48, 16, 0)),
+    ("a full page is on its list", |pool| {
+        counts(pool, 8, 48, 16, 2)
+    }),
+    ("a full page has a next", |pool| next(pool, 2, 0)),
+    ("a full page has a previous", |pool| previous(pool, 2, 0)),
+    ("a listed class page is its own next", |pool| {
+        next(pool, 0, 0)
+    }),
+    ("the first class page has a previous", |pool| {
+        previous(pool, 0, 2)
+    }),
+    ("a class page without a chunk in use", |pool| {
+        pool[152 + 16 * PAGES + 1] = 0
+    }),
+    ("free pages one too many", |pool| header(pool, 16, 16, 5)),
+    ("free pages one too few", |pool| header(pool, 16, 16, 3)),
+    ("used one too many", |pool| counts(pool, 0, 24, 24, 2)),
+    ("used counts the map's own chunks", |pool| {
+        counts(pool, 0, 24, 24, 9)
+    }),
+    ("a mark that used does not count", |pool| {
+        pool[152 + 16 * PAGES + 63] = 1
+    }),
+    ("total without the map's own chunks", |pool| {
+        counts(pool, 0, 0, 24, 504)
+    }),
+    ("total of a class without pages", |pool| {
+        counts(pool, 5, 0, 24, 16)
+    }),
+    ("used of a class without pages", |pool| {
+        counts(pool, 5, 24, 24, 1)
+    }),
+];
+
+fn table() -> String {
+    let mut text = String::from("| Damage | First broken rule |\n|---|---|\n");
+    for (name, damage) in CASES {
+        let mut pool = sound();
+        damage(&mut pool);
+        let rule = danumrikal::broken_rule(&pool);
+        assert_eq!(rule, reference::broken_rule(&pool), "{name}");
+        let before = pool.clone();
+        let refused = danumrikal::alloc(&mut pool, 1).map_err(|refusal| refusal.number());
+        assert_eq!(refused == Err(3), rule != 0, "{name}");
+        assert!(
+            rule == 0 || pool == before,
+            "{name}: a refused call changed the pool"
+        );
+        text.push_str(&format!("| {name} | {rule} |\n"));
+    }
+    text
+}
+
+#[test]
+fn the_table_of_the_documents_holds() {
+    let stored = include_str!("../../../docs/RULES.md");
+    let table = table();
+    assert!(
+        stored.ends_with(&table),
+        "docs/RULES.md should end with\n{table}"
+    );
+}
