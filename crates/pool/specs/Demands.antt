@@ -34,7 +34,7 @@ numberIn (denied k) = k
 
 -- ---- demand 1: every call answers; refusals change nothing
 
--- the pages of a pool that shows the state m; where the pages begin
+-- the block is live in the state that the records show
 abbrev pub liveIn : ℕ → List ℕ → Block → Type 0
 liveIn w s e = Live (read w s .page) e
 
