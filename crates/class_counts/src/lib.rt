@@ -2,7 +2,7 @@
 use records::ClassRecord;
 use records::PageNumber;
 ghost use mathlib.Core.Path.{_≡_};
-ghost use Prim.Native.Nat.{_-_};
+ghost use Prim.Native.Nat.{_+_, _-_, _%_};
 ghost use Rattle.model.specs.Calls.{raise};
 ghost use Rattle.classes.specs.Classes.{chunkUsed, pageUsed, chunkBack, pageBack, noneUsed};
 
@@ -11,6 +11,13 @@ fn raised(n: u32) -> u32
     ensures { λ r. ⌜ r ≡ raise n ⌝ }
 {
     if n < 4294967295 { n + 1 } else { n }
+}
+
+// One more of a count of 24 bits.
+fn one_more(n: u32) -> u32
+    ensures { λ r. ⌜ r ≡ n % 16777216 + 1 ⌝ }
+{
+    n % 16777216 + 1
 }
 
 fn minus(a: u32, b: u32) -> u32
@@ -22,10 +29,11 @@ fn minus(a: u32, b: u32) -> u32
 pub fn chunk_used(r: ClassRecord) -> ClassRecord
     ensures { λ x. ⌜ x ≡ chunkUsed r ⌝ }
 {
+    let used = one_more(r.used);
     let reqs = raised(r.reqs);
     ClassRecord {
         first: PageNumber(r.first.0),
-        used: r.used % 16777216 + 1,
+        used: used,
         total: r.total,
         reqs: reqs,
         fails: r.fails,
@@ -35,11 +43,12 @@ pub fn chunk_used(r: ClassRecord) -> ClassRecord
 pub fn page_used(r: ClassRecord, c: u8) -> ClassRecord
     ensures { λ x. ⌜ x ≡ pageUsed c r ⌝ }
 {
+    let used = one_more(r.used);
     let reqs = raised(r.reqs);
     let more = classes::total_count(c);
     ClassRecord {
         first: PageNumber(r.first.0),
-        used: r.used % 16777216 + 1,
+        used: used,
         total: r.total % 16777216 + more as u32,
         reqs: reqs,
         fails: r.fails,

@@ -20,7 +20,7 @@ same-length c = search needs
 
 returns : tie.Need-returns
 unfolding pageCut
-returns c = cc
+returns c = rw (c .before .before .before .before .before .before .open-map .ensures, c .before .before .before .before .before .before .before .before .before .before .enlist .ensures, c .before .before .before .before .before .before .before .before .before .before .before .before .before .before .take-page .ensures) at (c .before .before .count-page-used .ensures)
 
 pub cut-page-spec : {M : Type 1} → statement M
 cut-page-spec =

@@ -12,7 +12,7 @@ lowest-clear-requires : tie.Need-lowest-clear-requires
 lowest-clear-requires c κs = search needs
 
 returns : tie.Need-returns
-returns c = cc
+returns c = rw (c .before .chunk-count .ensures, c .before .before .map-base .ensures) at (c .lowest-clear .ensures)
 
 pub free-chunk-of-spec : {M : Type 1} → statement M
 free-chunk-of-spec =

@@ -23,7 +23,7 @@ same-length c = search needs
 
 returns : tie.Need-returns
 unfolding chunkTaken
-returns c = cc
+returns c = rw (c .before .before .before .before .before .before .set-mark .ensures, c .before .before .before .before .before .before .before .map-base .ensures, c .before .before .before .before .before .before .before .before .before .before .before .leave-if-full .ensures, c .before .before .before .before .before .before .before .before .before .before .before .before .before .marks-set .ensures) at (c .before .before .count-used .ensures)
 
 pub take-chunk-spec : {M : Type 1} → statement M
 take-chunk-spec =

@@ -23,7 +23,7 @@ same-length c = search needs
 
 returns : tie.Need-returns
 unfolding pageDropped
-returns c = cc
+returns c = rw (c .before .before .before .before .before .before .clear-mark .ensures, c .before .before .before .before .before .before .before .map-base .ensures, c .before .before .before .before .before .before .before .before .before .before .before .release .ensures, c .before .before .before .before .before .before .before .before .before .before .before .before .before .before .before .delist .ensures) at (c .before .before .count-page-back .ensures)
 
 pub drop-page-spec : {M : Type 1} → statement M
 drop-page-spec =

@@ -14,7 +14,7 @@ same-length c = search needs
 
 returns : tie.Need-returns
 unfolding chunkFreed
-returns c = cc
+returns c = rw (c .before .before .before .before .marks-set .ensures) at (c .before .before .free-of .ensures)
 
 pub free-chunk-spec : {M : Type 1} → statement M
 free-chunk-spec = tie.close (tie.spec marks-set-requires free-of-requires same-length returns)

@@ -20,7 +20,7 @@ same-length c = search needs
 
 returns : tie.Need-returns
 unfolding chunkKept
-returns c = cc
+returns c = rw (c .before .before .before .before .before .before .clear-mark .ensures, c .before .before .before .before .before .before .before .map-base .ensures, c .before .before .before .before .before .before .before .before .before .before .before .return-if-full .ensures) at (c .before .before .count-back .ensures)
 
 pub keep-page-spec : {M : Type 1} → statement M
 keep-page-spec =

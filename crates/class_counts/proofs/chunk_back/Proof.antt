@@ -6,7 +6,7 @@ minus-requires : tie.Need-minus-requires
 minus-requires c κs = search needs
 
 returns : tie.Need-returns
-returns c = cc
+returns c = rw (c .minus .ensures)
 
 pub chunk-back-spec : {M : Type 1} → statement M
 chunk-back-spec = tie.close (tie.spec minus-requires returns)

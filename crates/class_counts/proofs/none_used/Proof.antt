@@ -9,7 +9,7 @@ raised-requires-2 : tie.Need-raised-requires-2
 raised-requires-2 c κs = search needs
 
 returns : tie.Need-returns
-returns c = cc
+returns c = rw (c .raised2 .ensures, c .before .raised .ensures)
 
 pub none-used-spec : {M : Type 1} → statement M
 none-used-spec = tie.close (tie.spec raised-requires raised-requires-2 returns)

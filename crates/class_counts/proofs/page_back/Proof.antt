@@ -15,7 +15,7 @@ minus-requires-2 : tie.Need-minus-requires-2
 minus-requires-2 c κs = search needs
 
 returns : tie.Need-returns
-returns c = cc
+returns c = rw (c .minus2 .ensures, c .before .total-count .ensures, c .before .before .minus .ensures)
 
 pub page-back-spec : {M : Type 1} → statement M
 page-back-spec =

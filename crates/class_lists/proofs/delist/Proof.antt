@@ -17,7 +17,7 @@ same-length c = search needs
 
 returns : tie.Need-returns
 unfolding delisted
-returns c = cc
+returns c = rw (c .before .before .before .list-of .ensures, c .before .before .before .before .before .get-links .ensures) at (c .before .before .unlink .ensures)
 
 pub delist-spec : {M : Type 1} → statement M
 delist-spec =

@@ -17,7 +17,7 @@ same-length c = search needs
 
 returns : tie.Need-returns
 unfolding enlisted
-returns c = cc
+returns c = rw (c .before .before .before .class-links .ensures, c .before .before .before .before .list-of .ensures) at (c .before .before .push-front .ensures)
 
 pub enlist-spec : {M : Type 1} → statement M
 enlist-spec =

@@ -17,7 +17,7 @@ same-length c = search needs
 
 returns : tie.Need-returns
 unfolding setAside
-returns c = cc
+returns c = rw (c .before .before .before .class-links .ensures, c .before .before .before .before .before .before .before .delist .ensures) at (c .before .before .put-links .ensures)
 
 pub set-aside-spec : {M : Type 1} → statement M
 set-aside-spec =

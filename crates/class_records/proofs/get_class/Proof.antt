@@ -20,7 +20,7 @@ unpack-class-requires c κs = search needs
 
 returns : tie.Need-returns
 unfolding classAt
-returns c = cc
+returns c = rw (c .before .get-word2 .ensures, c .before .before .place2 .ensures, c .before .before .before .get-word .ensures, c .before .before .before .before .place .ensures) at (c .unpack-class .ensures)
 
 pub get-class-spec : {M : Type 1} → statement M
 get-class-spec =

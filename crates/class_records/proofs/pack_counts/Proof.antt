@@ -1,6 +1,5 @@
 use Rattle.records.specs.Class.{packCounts}
 use native.Mathlib.Omega.{arith}
-use borrow.Author.Needs.{needs}
 use Rattle.class_records.proofs.pack_counts.Statement.{statement}
 use Rattle.class_records.proofs.pack_counts.Tie as tie
 
@@ -27,7 +26,7 @@ add-result-2 c = omega arith
 
 returns : tie.Need-returns
 unfolding packCounts
-returns c = search needs
+returns c = omega arith
 
 pub pack-counts-spec : {M : Type 1} → statement M
 pack-counts-spec =

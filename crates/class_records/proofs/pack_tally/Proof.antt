@@ -1,6 +1,5 @@
 use Rattle.records.specs.Class.{packTally}
 use native.Mathlib.Omega.{arith}
-use borrow.Author.Needs.{needs}
 use Rattle.class_records.proofs.pack_tally.Statement.{statement}
 use Rattle.class_records.proofs.pack_tally.Tie as tie
 
@@ -18,7 +17,7 @@ add-result c = omega arith
 
 returns : tie.Need-returns
 unfolding packTally
-returns c = search needs
+returns c = omega arith
 
 pub pack-tally-spec : {M : Type 1} → statement M
 pack-tally-spec = tie.close (tie.spec cast-result mul-result cast-result-2 add-result returns)

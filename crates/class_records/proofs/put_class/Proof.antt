@@ -26,7 +26,7 @@ same-length c = search needs
 
 returns : tie.Need-returns
 unfolding withClass
-returns c = cc
+returns c = rw (c .before .before .before .pack-tally .ensures, c .before .before .before .before .place2 .ensures, c .before .before .before .before .before .before .before .before .put-word .ensures, c .before .before .before .before .before .before .before .before .before .pack-counts .ensures, c .before .before .before .before .before .before .before .before .before .before .place .ensures) at (c .before .before .put-word2 .ensures)
 
 pub put-class-spec : {M : Type 1} → statement M
 put-class-spec =

@@ -32,7 +32,7 @@ both-requires c κs = search needs
 
 returns : tie.Need-returns
 unfolding countsFit fieldsOf imageOf
-returns c = let b = c .before .before .before .before .before .before .before .before in cc (used-is (fieldsOf (b .args .w) (b .args .pool .now)) (b .args .n) (b .args .t .now) (b .pre .0 .most) (b .pre .0 .counted) (b .args .c) (b .pre .1), total-is (fieldsOf (b .args .w) (b .args .pool .now)) (b .args .n) (b .args .t .now) (b .pre .0 .most) (b .pre .0 .counted) (b .args .c) (b .pre .1))
+returns c = let b = c .before .before .before .before .before .before .before .before in rw (used-is (fieldsOf (b .args .w) (b .args .pool .now)) (b .args .n) (b .args .t .now) (b .pre .0 .most) (b .pre .0 .counted) (b .args .c) (b .pre .1), total-is (fieldsOf (b .args .w) (b .args .pool .now)) (b .args .n) (b .args .t .now) (b .pre .0 .most) (b .pre .0 .counted) (b .args .c) (b .pre .1)) (rw (c .before .before .before .chunks-of .ensures, c .before .before .before .before .middle .ensures .0, c .before .before .before .before .before .low .ensures, c .before .before .before .before .before .before .get-class .ensures) at (c .both .ensures))
 
 pub class-counts-spec : {M : Type 1} → statement M
 class-counts-spec =

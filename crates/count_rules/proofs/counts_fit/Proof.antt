@@ -22,7 +22,7 @@ both-requires c κs = search needs
 
 returns : tie.Need-returns
 unfolding rule6 fieldsOf imageOf
-returns c = let b = c .before .before .before .before .before .before in cc (idle-is (fieldsOf (b .args .w) (b .args .pool .now)) (b .args .n) (b .args .t .now) (b .pre .most) (b .pre .counted))
+returns c = let b = c .before .before .before .before .before .before in rw (idle-is (fieldsOf (b .args .w) (b .args .pool .now)) (b .args .n) (b .args .t .now) (b .pre .most) (b .pre .counted)) (rw (c .before .before .all-counts .ensures, c .before .before .before .low .ensures, c .before .before .before .before .get-header .ensures) at (c .both .ensures))
 
 pub counts-fit-spec : {M : Type 1} → statement M
 counts-fit-spec =

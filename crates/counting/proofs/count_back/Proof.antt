@@ -17,7 +17,7 @@ same-length c = search needs
 
 returns : tie.Need-returns
 unfolding countBack
-returns c = cc
+returns c = rw (c .before .before .before .chunk-back .ensures, c .before .before .before .before .before .get-class .ensures) at (c .before .before .put-class .ensures)
 
 pub count-back-spec : {M : Type 1} → statement M
 count-back-spec =

@@ -17,7 +17,7 @@ same-length c = search needs
 
 returns : tie.Need-returns
 unfolding countPageUsed
-returns c = cc
+returns c = rw (c .before .before .before .page-used .ensures, c .before .before .before .before .before .get-class .ensures) at (c .before .before .put-class .ensures)
 
 pub count-page-used-spec : {M : Type 1} → statement M
 count-page-used-spec =

@@ -17,7 +17,7 @@ same-length c = search needs
 
 returns : tie.Need-returns
 unfolding chunkRefused
-returns c = cc
+returns c = rw (c .before .before .before .none-used .ensures, c .before .before .before .before .before .get-class .ensures) at (c .before .before .put-class .ensures)
 
 pub refuse-chunk-spec : {M : Type 1} → statement M
 refuse-chunk-spec =

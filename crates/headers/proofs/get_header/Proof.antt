@@ -11,7 +11,7 @@ unpack-header-requires c κs = search needs
 
 returns : tie.Need-returns
 unfolding headerAt
-returns c = cc
+returns c = rw (c .before .get-word .ensures) at (c .unpack-header .ensures)
 
 pub get-header-spec : {M : Type 1} → statement M
 get-header-spec = tie.close (tie.spec get-word-requires unpack-header-requires returns)

@@ -1,6 +1,5 @@
 use Rattle.records.specs.Header.{packHeader}
 use native.Mathlib.Omega.{arith}
-use borrow.Author.Needs.{needs}
 use Rattle.headers.proofs.pack_header.Statement.{statement}
 use Rattle.headers.proofs.pack_header.Tie as tie
 
@@ -54,7 +53,7 @@ add-result-5 c = omega arith
 
 returns : tie.Need-returns
 unfolding packHeader
-returns c = search needs
+returns c = omega arith
 
 pub pack-header-spec : {M : Type 1} → statement M
 pack-header-spec =

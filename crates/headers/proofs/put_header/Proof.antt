@@ -14,7 +14,7 @@ same-length c = search needs
 
 returns : tie.Need-returns
 unfolding withHeader
-returns c = cc
+returns c = rw (c .before .before .before .pack-header .ensures) at (c .before .before .put-word .ensures)
 
 pub put-header-spec : {M : Type 1} → statement M
 put-header-spec = tie.close (tie.spec pack-header-requires put-word-requires same-length returns)

@@ -6,7 +6,7 @@ get-class-requires : tie.Need-get-class-requires
 get-class-requires c κs = search needs
 
 returns : tie.Need-returns
-returns c = cc
+returns c = rw (c .get-class .ensures)
 
 pub first-page-spec : {M : Type 1} → statement M
 first-page-spec = tie.close (tie.spec get-class-requires returns)

@@ -6,7 +6,7 @@ get-header-requires : tie.Need-get-header-requires
 get-header-requires c κs = search needs
 
 returns : tie.Need-returns
-returns c = cc
+returns c = rw (c .get-header .ensures)
 
 pub first-run-spec : {M : Type 1} → statement M
 first-run-spec = tie.close (tie.spec get-header-requires returns)

@@ -17,7 +17,7 @@ same-length c = search needs
 
 returns : tie.Need-returns
 unfolding withFirstPage
-returns c = cc
+returns c = rw (c .before .before .before .first-to .ensures, c .before .before .before .before .before .get-class .ensures) at (c .before .before .put-class .ensures)
 
 pub put-first-page-spec : {M : Type 1} → statement M
 put-first-page-spec =

@@ -17,7 +17,7 @@ same-length c = search needs
 
 returns : tie.Need-returns
 unfolding withFirstRun
-returns c = cc
+returns c = rw (c .before .before .before .first-run-to .ensures, c .before .before .before .before .before .get-header .ensures) at (c .before .before .put-header .ensures)
 
 pub put-first-run-spec : {M : Type 1} → statement M
 put-first-run-spec =

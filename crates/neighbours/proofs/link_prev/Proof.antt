@@ -17,7 +17,7 @@ same-length c = search needs
 
 returns : tie.Need-returns
 unfolding linkedPrev
-returns c = cc
+returns c = rw (c .before .before .before .between-pages .ensures, c .before .before .before .before .before .get-links .ensures) at (c .before .before .put-links .ensures)
 
 pub link-prev-spec : {M : Type 1} → statement M
 link-prev-spec =

@@ -14,7 +14,7 @@ unpack-links-requires c κs = search needs
 
 returns : tie.Need-returns
 unfolding linksAt
-returns c = cc
+returns c = rw (c .before .get-word .ensures, c .before .before .links-word .ensures) at (c .unpack-links .ensures)
 
 pub get-links-spec : {M : Type 1} → statement M
 get-links-spec =

@@ -1,6 +1,5 @@
 use Rattle.records.specs.Page.{packLinks}
 use native.Mathlib.Omega.{arith}
-use borrow.Author.Needs.{needs}
 use Rattle.page_records.proofs.pack_links.Statement.{statement}
 use Rattle.page_records.proofs.pack_links.Tie as tie
 
@@ -48,7 +47,7 @@ add-result-4 c = omega arith
 
 returns : tie.Need-returns
 unfolding packLinks
-returns c = search needs
+returns c = omega arith
 
 pub pack-links-spec : {M : Type 1} → statement M
 pack-links-spec =

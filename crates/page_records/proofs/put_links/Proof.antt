@@ -17,7 +17,7 @@ same-length c = search needs
 
 returns : tie.Need-returns
 unfolding withLinks
-returns c = cc
+returns c = rw (c .before .before .before .before .links-word .ensures, c .before .before .before .pack-links .ensures) at (c .before .before .put-word .ensures)
 
 pub put-links-spec : {M : Type 1} → statement M
 put-links-spec =

@@ -20,7 +20,7 @@ same-length c = search needs
 
 returns : tie.Need-returns
 unfolding pushedBefore
-returns c = cc
+returns c = rw (c .before .before .before .before .before .before .put-prev .ensures, c .before .before .before .before .before .before .before .before .before .before .put-links .ensures, c .before .before .before .before .before .before .before .before .before .before .before .between-pages .ensures) at (c .before .before .put-first .ensures)
 
 pub push-before-spec : {M : Type 1} → statement M
 push-before-spec =

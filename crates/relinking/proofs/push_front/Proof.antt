@@ -14,7 +14,7 @@ same-length c = search needs
 
 returns : tie.Need-returns
 unfolding pushed
-returns c = cc
+returns c = rw (c .before .before .before .before .first .ensures) at (c .before .before .push-before .ensures)
 
 pub push-front-spec : {M : Type 1} → statement M
 push-front-spec = tie.close (tie.spec first-requires push-before-requires same-length returns)

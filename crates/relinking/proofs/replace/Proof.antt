@@ -20,7 +20,7 @@ same-length c = search needs
 
 returns : tie.Need-returns
 unfolding replaced
-returns c = cc
+returns c = rw (c .before .before .before .before .before .before .put-next .ensures, c .before .before .before .before .before .before .before .before .before .before .put-links .ensures, c .before .before .before .before .before .before .before .before .before .before .before .between-pages .ensures) at (c .before .before .put-prev .ensures)
 
 pub replace-spec : {M : Type 1} → statement M
 replace-spec =

@@ -14,7 +14,7 @@ same-length c = search needs
 
 returns : tie.Need-returns
 unfolding unlinked
-returns c = cc
+returns c = rw (c .before .before .before .before .before .before .put-next .ensures) at (c .before .before .put-prev .ensures)
 
 pub unlink-spec : {M : Type 1} → statement M
 unlink-spec = tie.close (tie.spec put-next-requires put-prev-requires same-length returns)

@@ -23,7 +23,7 @@ same-length c = search needs
 
 returns : tie.Need-returns
 unfolding restKept
-returns c = cc
+returns c = rw (c .before .before .before .before .before .before .replace .ensures, c .before .before .before .before .before .before .before .plain-links .ensures, c .before .before .before .before .before .before .before .before .before .less .ensures, c .before .before .before .before .before .before .before .before .before .before .after .ensures) at (c .before .before .put-back .ensures)
 
 pub keep-rest-spec : {M : Type 1} → statement M
 keep-rest-spec =

@@ -20,7 +20,7 @@ same-length c = search needs
 
 returns : tie.Need-returns
 unfolding fewerFree
-returns c = cc
+returns c = rw (c .before .before .before .free-to .ensures, c .before .before .before .before .less .ensures, c .before .before .before .before .before .before .get-header .ensures) at (c .before .before .put-header .ensures)
 
 pub take-free-spec : {M : Type 1} → statement M
 take-free-spec =

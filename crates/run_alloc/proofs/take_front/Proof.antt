@@ -17,7 +17,7 @@ same-length c = search needs
 
 returns : tie.Need-returns
 unfolding frontOff
-returns c = cc
+returns c = rw (c .before .before .before .before .before .before .take-free .ensures, c .before .before .before .before .before .before .before .before .get-links .ensures) at (c .before .before .cut-front .ensures)
 
 pub take-front-spec : {M : Type 1} → statement M
 take-front-spec =

@@ -11,7 +11,7 @@ same-length c = search needs
 
 returns : tie.Need-returns
 unfolding frontPage
-returns c = cc
+returns c = c .before .before .take-front .ensures
 
 pub take-page-spec : {M : Type 1} → statement M
 take-page-spec = tie.close (tie.spec take-front-requires same-length returns)

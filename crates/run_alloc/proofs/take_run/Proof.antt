@@ -23,7 +23,7 @@ same-length c = search needs
 
 returns : tie.Need-returns
 unfolding runTaken
-returns c = cc
+returns c = rw (c .before .before .before .plain-links2 .ensures, c .before .before .before .before .before .before .before .fill .ensures, c .before .before .before .before .before .before .before .before .plain-links .ensures, c .before .before .before .before .before .before .before .before .before .before .before .before .take-front .ensures) at (c .before .before .put-links .ensures)
 
 pub take-run-spec : {M : Type 1} → statement M
 take-run-spec =

@@ -29,7 +29,7 @@ same-length c = search needs
 
 returns : tie.Need-returns
 unfolding blanked
-returns c = cc
+returns c = rw (c .before .before .before .plain-links .ensures, c .before .before .before .before .sum .ensures, c .before .before .before .before .before .one-of3 .ensures, c .before .before .before .before .before .before .one-of2 .ensures, c .before .before .before .before .before .before .before .before2 .ensures, c .before .before .before .before .before .before .before .before .one-of .ensures) at (c .before .before .fill .ensures)
 
 pub blank-spec : {M : Type 1} → statement M
 blank-spec =

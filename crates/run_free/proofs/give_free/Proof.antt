@@ -20,7 +20,7 @@ same-length c = search needs
 
 returns : tie.Need-returns
 unfolding moreFree
-returns c = cc
+returns c = rw (c .before .before .before .free-to .ensures, c .before .before .before .before .add .ensures, c .before .before .before .before .before .before .get-header .ensures) at (c .before .before .put-header .ensures)
 
 pub give-free-spec : {M : Type 1} → statement M
 give-free-spec =

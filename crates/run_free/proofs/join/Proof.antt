@@ -32,7 +32,7 @@ same-length c = search needs
 
 returns : tie.Need-returns
 unfolding joinedRun
-returns c = cc
+returns c = rw (c .before .before .before .sum .ensures, c .before .before .before .before .before3 .ensures, c .before .before .before .before .before .before .before .before .blank .ensures, c .before .before .before .before .before .before .before .before .before .before .before .before .drop-run2 .ensures, c .before .before .before .before .before .before .before .before .before .before .before .before .before .before2 .ensures, c .before .before .before .before .before .before .before .before .before .before .before .before .before .before .before .before .before .drop-run .ensures, c .before .before .before .before .before .before .before .before .before .before .before .before .before .before .before .before .before .before .after .ensures) at (c .before .before .push-run .ensures)
 
 pub join-spec : {M : Type 1} → statement M
 join-spec =

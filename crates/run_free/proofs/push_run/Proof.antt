@@ -17,7 +17,7 @@ same-length c = search needs
 
 returns : tie.Need-returns
 unfolding runPushed
-returns c = cc
+returns c = rw (c .before .before .before .plain-links .ensures, c .before .before .before .before .before .before .before .put-back .ensures) at (c .before .before .push-front .ensures)
 
 pub push-run-spec : {M : Type 1} → statement M
 push-run-spec =

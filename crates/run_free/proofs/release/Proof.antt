@@ -23,7 +23,7 @@ same-length c = search needs
 
 returns : tie.Need-returns
 unfolding pagesReleased
-returns c = cc
+returns c = rw (c .before .before .before .before .before .before .give-free .ensures, c .before .before .before .before .before .before .before .before .right-len .ensures, c .before .before .before .before .before .before .before .before .before .after .ensures, c .before .before .before .before .before .before .before .before .before .before .before .left-len .ensures) at (c .before .before .join .ensures)
 
 pub release-spec : {M : Type 1} → statement M
 release-spec =

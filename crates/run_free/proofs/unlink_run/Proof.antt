@@ -14,7 +14,7 @@ same-length c = search needs
 
 returns : tie.Need-returns
 unfolding runUnlinked
-returns c = cc
+returns c = rw (c .before .before .before .before .get-links .ensures) at (c .before .before .unlink .ensures)
 
 pub unlink-run-spec : {M : Type 1} → statement M
 unlink-run-spec = tie.close (tie.spec get-links-requires unlink-requires same-length returns)
