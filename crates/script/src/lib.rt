@@ -1,0 +1,63 @@
+// A script served on a fresh pool of 12 pages, and its whole printout written into a slice.
+use answers::Refusal;
+use lines::Request;
+use records::Offset;
+ghost use mathlib.Core.Path.{_≡_};
+ghost use mathlib.Core.Option.{some};
+ghost use Prim.Native.Nat.{_+_, _*_, _≤_};
+ghost use lib.ListN.{length};
+ghost use Rattle.words.specs.Word.{Bytes};
+ghost use Rattle.model.specs.Calls.{Alloc, Free};
+ghost use Rattle.format.specs.Format.{formatOutcome, formatted};
+ghost use Rattle.lines.specs.Lines.{lines, request, callOf};
+ghost use Rattle.printout.specs.Text.{written};
+ghost use Rattle.replies.specs.Replies.{formatLine};
+ghost use Rattle.script.specs.Script.{printout};
+ghost use Rattle.script.specs.Served.{replyOn, nextOn, textOn, poolOn, printoutOn};
+
+// Each function writes from place n on and answers the place after its lines.
+fn serve_take(pool: &mut [u8], size: u32, out: &mut [u8], n: usize) -> usize
+    requires { ⌜ n ≤ 1000000 ⌝ }
+    ensures { λ r. ⌜ (r ≡ n + length (replyOn (now (pool .entry)) (some (Alloc size)))) × (now (out .exit) ≡ written (now (out .entry)) n (replyOn (now (pool .entry)) (some (Alloc size)))) × (now (pool .exit) ≡ nextOn (now (pool .entry)) (some (Alloc size))) ⌝ }
+{
+    replies::put_allocated(out, n, pool::alloc(pool, size))
+}
+
+fn serve_give(pool: &mut [u8], at: Offset, out: &mut [u8], n: usize) -> usize
+    requires { ⌜ n ≤ 1000000 ⌝ }
+    ensures { λ r. ⌜ (r ≡ n + length (replyOn (now (pool .entry)) (some (Free (at .0))))) × (now (out .exit) ≡ written (now (out .entry)) n (replyOn (now (pool .entry)) (some (Free (at .0))))) × (now (pool .exit) ≡ nextOn (now (pool .entry)) (some (Free (at .0)))) ⌝ }
+{
+    replies::put_freed(out, n, pool::free(pool, at))
+}
+
+fn serve_request(pool: &mut [u8], r: Request, out: &mut [u8], n: usize) -> usize
+    requires { ⌜ n ≤ 1000000 ⌝ }
+    ensures { λ m. ⌜ (m ≡ n + length (replyOn (now (pool .entry)) (callOf r))) × (now (out .exit) ≡ written (now (out .entry)) n (replyOn (now (pool .entry)) (callOf r))) × (now (pool .exit) ≡ nextOn (now (pool .entry)) (callOf r)) ⌝ }
+{
+    match r {
+        Request::Take(size) => serve_take(pool, size, out, n),
+        Request::Give(at) => serve_give(pool, at, out, n),
+        Request::Unreadable => replies::put_refusal(out, n, Refusal::Unreadable),
+    }
+}
+
+fn serve_line(pool: &mut [u8], line: &[u8], out: &mut [u8], n: usize) -> usize
+    requires { ⌜ n ≤ 1000000 ⌝ }
+    ensures { λ r. ⌜ (r ≡ n + length (replyOn (now (pool .entry)) (request (now (line .entry))))) × (now (out .exit) ≡ written (now (out .entry)) n (replyOn (now (pool .entry)) (request (now (line .entry))))) × (now (pool .exit) ≡ nextOn (now (pool .entry)) (request (now (line .entry)))) ⌝ }
+{
+    serve_request(pool, lines::read_line(line), out, n)
+}
+
+fn serve_lines(pool: &mut [u8], input: &[u8], out: &mut [u8], n: usize) -> usize
+    requires { ⌜ n + 5 * (length (now input) + 1) ≤ 1000000 ⌝ }
+    ensures { λ r. ⌜ (r ≡ n + length (textOn (now (pool .entry)) (lines (now (input .entry))))) × (now (out .exit) ≡ written (now (out .entry)) n (textOn (now (pool .entry)) (lines (now (input .entry))))) × (now (pool .exit) ≡ poolOn (now (pool .entry)) (lines (now (input .entry)))) × (r ≤ n + 5 * (length (now (input .entry)) + 1)) ⌝ }
+{
+    let mut next = n;
+    let mut at = 0;
+    while at < input.len() {
+        let end = lines::line_end(input, at);
+        next = serve_line(pool, &input[at..end], out, next);
+        at = end + 1;
+    }
+    next
+}
