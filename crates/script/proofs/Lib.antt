@@ -1,2 +1,4 @@
 pub mod Serving
 pub mod Room
+pub mod Alike
+pub mod Claims

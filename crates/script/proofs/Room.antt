@@ -18,8 +18,10 @@ use Rattle.lines.specs.Lines.{before, lines, begins, callWith, request}
 use Rattle.lines.proofs.Words.{begins-long}
 use Rattle.printout.specs.Text.{digits, places, decimal, phrase, line}
 use Rattle.printout.proofs.Digits.{decimal-few}
-use Rattle.replies.specs.Replies.{atWord, noWord, backLine, refusalLine, outcomeLine, allocLine, freeLine, replyLine}
-use Rattle.script.specs.Script.{reply, replies, next, joined}
+use Rattle.replies.specs.Replies.{poolWord, atWord, noWord, backLine, refusalLine, outcomeLine, formatLine, allocLine, freeLine, replyLine}
+use Rattle.summary.specs.Summary.{freeWord, runsWord, summaryLine}
+use Rattle.rules.specs.Rules.{freeIn}
+use Rattle.script.specs.Script.{reply, replies, next, final, joined, summary, session}
 use Rattle.script.specs.Served.{replyOn, nextOn, repliesOn, textOn}
 
 pub phrase-few : (word : List ℕ) (v : ℕ) → length (phrase word v) ≤ length word + 10
@@ -32,18 +34,22 @@ line-few word v = omega (arith, length-append (phrase word v) (10 ∷ []), phras
 
 -- ---- a line's answer against the line
 
-outcome-few : (g : List ℕ) (o : Outcome) → length g ≤ 14 → length (outcomeLine g o) ≤ 14
+outcome-few : (k : ℕ) (g : List ℕ) (o : Outcome) → 14 ≤ k → length g ≤ k → length (outcomeLine g o) ≤ k
 unfolding outcomeLine pick
-outcome-few g o h = go (eqb (o .number) 0)
+outcome-few k g o l h = go (eqb (o .number) 0)
   where
-    go : (b : Bool) → length (pick b g (line noWord (o .number))) ≤ 14
+    go : (b : Bool) → length (pick b g (line noWord (o .number))) ≤ k
     go true = h
-    go false = line-few noWord (o .number)
+    go false = omega (arith, l, line-few noWord (o .number))
+
+pub format-few : (o : Outcome) → length (formatLine o) ≤ 16
+unfolding formatLine
+format-few o = outcome-few 16 (line poolWord (o .value)) o (omega arith) (line-few poolWord (o .value))
 
 reply-few : (call : Call) (o : Outcome) → length (replyLine call o) ≤ 14
 unfolding replyLine allocLine freeLine
-reply-few (Alloc n) o = outcome-few (line atWord (o .value)) o (line-few atWord (o .value))
-reply-few (Free off) o = outcome-few backLine o (omega arith)
+reply-few (Alloc n) o = outcome-few 14 (line atWord (o .value)) o (omega arith) (line-few atWord (o .value))
+reply-few (Free off) o = outcome-few 14 backLine o (omega arith) (omega arith)
 
 unreadable-few : length (refusalLine Unreadable) ≡ 5
 unfolding refusalLine line phrase decimal digits places pick
@@ -96,7 +102,7 @@ weight-lines (b ∷ s) = go (eqb b 10) (lines s) (weight-lines s)
     go false [] h = omega arith
     go false (l ∷ ls) h = omega (arith, h)
 
-pub replies-fit : (m : State) (ls : List (List ℕ)) → length (joined (replies m ls)) ≤ 5 * weight ls
+replies-fit : (m : State) (ls : List (List ℕ)) → length (joined (replies m ls)) ≤ 5 * weight ls
 replies-fit m [] = omega arith
 replies-fit m (l ∷ ls) =
     omega (arith, length-append (reply m (request l)) (joined (replies (next m (request l)) ls)), reply-fits m l, replies-fit (next m (request l)) ls)
@@ -109,3 +115,21 @@ replies-on-fit s (l ∷ ls) =
 pub text-fits : (s input : List ℕ) → length (textOn s (lines input)) ≤ 5 * (length input + 1)
 unfolding textOn
 text-fits s input = omega (arith, replies-on-fit s (lines input), weight-lines input)
+
+pub summary-few : (m : State) → length (summary m) ≤ 32
+unfolding summary summaryLine
+summary-few m =
+    let free : ℕ = freeIn (m .page) (m .size) in
+    let runs : ℕ = length (m .runs) in
+    omega (arith, length-append (phrase freeWord free) (line runsWord runs), phrase-few freeWord free, line-few runsWord runs)
+
+pub session-fits : (m : State) (input : List ℕ) → length (session m (lines input)) ≤ 5 * (length input + 1) + 32
+unfolding session
+session-fits m input =
+    omega (
+      arith,
+      length-append (joined (replies m (lines input))) (summary (final m (lines input))),
+      replies-fit m (lines input),
+      weight-lines input,
+      summary-few (final m (lines input)),
+    )

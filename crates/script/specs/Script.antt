@@ -50,7 +50,9 @@ summary m = summaryLine (freeIn (m .page) (m .size)) (length (m .runs))
 unfoldable pub session : State → List (List ℕ) → List ℕ
 session m ls = joined (replies m ls) ++ summary (final m ls)
 
+unfoldable pub transcript : List ℕ → List ℕ
+transcript input = line poolWord pages ++ session (fresh pages) (lines input)
+
 -- the whole printout
 unfoldable pub printout : List ℕ → List ℕ
-printout input =
-    pick (leb (length input) longest) (line poolWord pages ++ session (fresh pages) (lines input)) (refusalLine ScriptTooLong)
+printout input = pick (leb (length input) longest) (transcript input) (refusalLine ScriptTooLong)

@@ -6,14 +6,13 @@ ghost use mathlib.Core.Path.{_≡_};
 ghost use mathlib.Core.Option.{some};
 ghost use Prim.Native.Nat.{_+_, _*_, _≤_};
 ghost use lib.ListN.{length};
-ghost use Rattle.words.specs.Word.{Bytes};
 ghost use Rattle.model.specs.Calls.{Alloc, Free};
 ghost use Rattle.format.specs.Format.{formatOutcome, formatted};
 ghost use Rattle.lines.specs.Lines.{lines, request, callOf};
 ghost use Rattle.printout.specs.Text.{written};
 ghost use Rattle.replies.specs.Replies.{formatLine};
-ghost use Rattle.script.specs.Script.{printout};
-ghost use Rattle.script.specs.Served.{replyOn, nextOn, textOn, poolOn, printoutOn};
+ghost use Rattle.script.specs.Script.{transcript, printout};
+ghost use Rattle.script.specs.Served.{replyOn, nextOn, textOn, poolOn};
 
 // Each function writes from place n on and answers the place after its lines.
 fn serve_take(pool: &mut [u8], size: u32, out: &mut [u8], n: usize) -> usize
@@ -60,4 +59,30 @@ fn serve_lines(pool: &mut [u8], input: &[u8], out: &mut [u8], n: usize) -> usize
         at = end + 1;
     }
     next
+}
+
+fn start(pool: &mut [u8], out: &mut [u8]) -> usize
+    ensures { λ r. ⌜ (r ≡ length (formatLine (formatOutcome 2 (length (now (pool .entry)))))) × (now (out .exit) ≡ written (now (out .entry)) 0 (formatLine (formatOutcome 2 (length (now (pool .entry)))))) × (now (pool .exit) ≡ formatted 2 (now (pool .entry))) × (r ≤ 16) ⌝ }
+{
+    replies::put_formatted(out, 0, format::format(pool))
+}
+
+fn serve_fresh(pool: &mut [u8], input: &[u8], out: &mut [u8]) -> usize
+    requires { ⌜ (length (now pool) ≡ 49496) × (length (now input) ≤ 12288) ⌝ }
+    ensures { λ r. ⌜ (r ≡ length (transcript (now (input .entry)))) × (now (out .exit) ≡ written (now (out .entry)) 0 (transcript (now (input .entry)))) ⌝ }
+{
+    let first = start(pool, out);
+    let next = serve_lines(pool, input, out, first);
+    summary::put_summary(pool, 2, out, next)
+}
+
+// Serves a script of any length, and answers how long its printout is; at most 65,536 bytes.
+pub fn serve(input: &[u8], out: &mut [u8]) -> usize
+    ensures { λ r. ⌜ (r ≡ length (printout (now (input .entry)))) × (now (out .exit) ≡ written (now (out .entry)) 0 (printout (now (input .entry)))) × (r ≤ 65536) ⌝ }
+{
+    if input.len() <= 12288 {
+        let mut pool = [0u8; 49496];
+        return serve_fresh(&mut pool, input, out);
+    }
+    replies::put_refusal(out, 0, Refusal::ScriptTooLong)
 }

@@ -41,5 +41,6 @@ pub counts-do : (s t u : List ℕ) (n free runs a r : ℕ) →
     (r ≡ n + length (summaryLine free runs)) × (u ≡ written s n (summaryLine free runs))
 unfolding summaryLine
 counts-do s t u n free runs a r (e, f, _) (g, h, _) = (
-    rw (length-append (phrase freeWord free) (line runsWord runs)) (omega (arith, e, g)),
-    h ∙ rw (e, f) (sym (written-append s n (phrase freeWord free) (line runsWord runs))))
+  rw (length-append (phrase freeWord free) (line runsWord runs)) (omega (arith, e, g)),
+  h ∙ rw (e, f) (sym (written-append s n (phrase freeWord free) (line runsWord runs))),
+)

@@ -1,5 +1,6 @@
 // The last line of a printout: the free pages and the free runs, as the pool's records tell them.
-use printout::{put_line, put_phrase};
+use printout::put_line;
+use printout::put_phrase;
 use tests::one_if;
 ghost use mathlib.Core.Path.{_≡_};
 ghost use Prim.Native.Nat.{_+_, _≤_};

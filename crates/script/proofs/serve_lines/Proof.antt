@@ -47,9 +47,12 @@ loop-less c = search needs
 loop-again : tie.Need-loop-again Inv-loop μ-loop
 loop-again c =
     let b = c .before .before .before .before .before .before .before .before .before .before in
-    let l = c .before .before .before .before .before .before .before .before .line-end .ensures in
-    (search needs, search needs, search needs,
-    left-more _ _ _ _ _ _ _ _ _ _ _ _ (c .before .before .before .before .serve-line .ensures) (left-as _ _ _ _ _ _ _ _ _ (l .2) (b .loop .inv .3)))
+    let l = c .before .before .before .before .before .before .before .before .line-end .ensures in (
+      search needs,
+      search needs,
+      search needs,
+      left-more _ _ _ _ _ _ _ _ _ _ _ _ (c .before .before .before .before .serve-line .ensures) (left-as _ _ _ _ _ _ _ _ _ (l .2) (b .loop .inv .3)),
+    )
 
 same-length : tie.Need-same-length Inv-loop μ-loop
 same-length c = search needs
