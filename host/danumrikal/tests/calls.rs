@@ -1,8 +1,6 @@
 //! Alloc, free and validation against the second program: answers and every
 //! byte of the slice after each call, on sound and on damaged pools.
 
-mod support;
-
 use support::Rng;
 
 type Numbers<T> = Result<T, u8>;
@@ -54,7 +52,7 @@ fn size(rng: &mut Rng) -> u32 {
     match rng.below(12) {
         0 => 0,
         1 => 2_049 + rng.below(20_000) as u32,
-        2 => rng.next() as u32,
+        2 => rng.word() as u32,
         class => 1 + rng.below(8 << (class - 3).min(8)) as u32,
     }
 }
@@ -125,7 +123,7 @@ fn damaged_pools_are_judged_alike_and_stay_whole() {
             let byte = if rng.below(2) == 0 {
                 pair.ours[at] ^ (1 << rng.below(8))
             } else {
-                rng.next() as u8
+                rng.word() as u8
             };
             pair.ours[at] = byte;
             pair.theirs[at] = byte;
@@ -134,7 +132,7 @@ fn damaged_pools_are_judged_alike_and_stay_whole() {
             let answer = pair.alloc(size(&mut rng));
             if broken != 0 {
                 assert_eq!(answer, Err(3));
-                assert_eq!(pair.free(rng.next() as u32), Err(3));
+                assert_eq!(pair.free(rng.word() as u32), Err(3));
                 assert!(pair.ours == before, "a refused call changed the pool");
             }
         }
