@@ -1,0 +1,146 @@
+//! The proved pool and the second program side by side: answers and every byte
+//! after each call, on sound and on damaged pools. And the live blocks, told by
+//! calls and answers alone while callers' bytes and the tail become others
+//! before each call: they say what the pool shows and how the next call is
+//! ruled. A game that goes wrong is shrunk and printed as a list of calls.
+//!
+//! The seeds are fixed. More games, with further seeds, here ten times as many:
+//!
+//! ```text
+//! DANUMRIKAL_TIMES=10 cargo test --release --offline --manifest-path host/Cargo.toml \
+//!     -p danumrikal --test differential -- --nocapture
+//! ```
+
+mod case;
+mod doubles;
+mod game;
+mod player;
+mod program;
+mod shrink;
+
+use player::{play_all, Plan, Seen};
+use program::{PROVED, SECOND};
+use support::{Habit, Rng};
+
+/// How many times the usual number of games is played.
+fn times() -> u64 {
+    match std::env::var("DANUMRIKAL_TIMES") {
+        Ok(times) => times.parse().expect("DANUMRIKAL_TIMES is a number"),
+        Err(_) => 1,
+    }
+}
+
+/// Plays the proved pool against the second program; at least so many calls.
+fn compare(calls: u64, plans: impl Iterator<Item = Plan>) -> Seen {
+    match play_all([PROVED, SECOND], plans) {
+        Ok(seen) => {
+            println!("{seen:?}");
+            assert!(seen.calls >= calls * times(), "only {} calls", seen.calls);
+            seen
+        }
+        Err(found) => panic!("{found}"),
+    }
+}
+
+#[test]
+fn every_page_count() {
+    let seen = compare(
+        30_000,
+        (0..256 * times()).map(|game| Plan {
+            seed: game,
+            pages: 1 + game as usize % 256,
+            turns: 100,
+            habit: None,
+            damaging: false,
+        }),
+    );
+    assert_eq!(seen.refused[3], 0);
+    assert!(seen.refused[4..].iter().all(|count| *count > 100));
+}
+
+#[test]
+fn small_pools_fill_break_into_pieces_and_empty() {
+    let seen = compare(
+        120_000,
+        (0..300 * times()).map(|game| Plan {
+            seed: 10_000_000 + game,
+            pages: 1 + game as usize % 12,
+            turns: 400,
+            habit: None,
+            damaging: false,
+        }),
+    );
+    assert_eq!(seen.refused[3], 0);
+    assert!(seen.refused[4..].iter().all(|count| *count > 1_000));
+}
+
+#[test]
+fn pages_of_one_class_fill() {
+    let seen = compare(
+        25_000,
+        (0..18 * times()).map(|game| Plan {
+            seed: 20_000_000 + game,
+            pages: 1 + game as usize / 9 % 2,
+            turns: 1_400,
+            habit: Some(Habit {
+                favourite: 8 << (game % 9),
+                allocs: 12,
+            }),
+            damaging: false,
+        }),
+    );
+    assert!(seen.refused[4] > 1_000);
+}
+
+#[test]
+fn large_pools_break_into_pieces() {
+    let seen = compare(
+        10_000,
+        (0..4 * times()).map(|game| Plan {
+            seed: 30_000_000 + game,
+            pages: [64, 130, 255, 256][game as usize % 4],
+            turns: 2_200,
+            habit: Some(Habit {
+                favourite: [4_096, 64, 8_192, 2_048][game as usize % 4],
+                allocs: 9,
+            }),
+            damaging: false,
+        }),
+    );
+    assert!(seen.refused[4] > 100);
+}
+
+#[test]
+fn damaged_pools_are_validated_alike_and_stay_whole() {
+    let seen = compare(
+        40_000,
+        (0..300 * times()).map(|game| Plan {
+            seed: 40_000_000 + game,
+            pages: if game % 50 == 0 {
+                256
+            } else {
+                1 + game as usize % 9
+            },
+            turns: 200,
+            habit: None,
+            damaging: true,
+        }),
+    );
+    assert!(seen.refused[3] > 5_000);
+    assert!(seen.broken.iter().all(|count| *count > 20));
+}
+
+#[test]
+fn any_bytes_are_answered() {
+    for len in [0, 1, 7, 8, 151, 152, 4_263, 4_264, 8_375, 8_376, 49_496] {
+        let random = Rng::new(len as u64).bytes(len);
+        for mut bytes in [vec![0x00; len], vec![0xff; len], vec![0x55; len], random] {
+            let rule = danumrikal::broken_rule(&bytes);
+            assert_eq!(rule, reference::broken_rule(&bytes), "length {len}");
+            let before = bytes.clone();
+            assert_eq!((PROVED.alloc)(&mut bytes, 1), Err(3), "length {len}");
+            assert_eq!((PROVED.free)(&mut bytes, 0), Err(3), "length {len}");
+            assert!(bytes == before, "length {len}");
+        }
+    }
+}

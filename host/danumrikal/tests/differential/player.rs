@@ -1,0 +1,225 @@
+//! Plays random games from seeds, and tells of the first that goes wrong.
+
+use std::fmt;
+use std::ops::AddAssign;
+
+use reference::layout::word;
+use support::{Habit, Rng};
+
+use crate::case::{Case, Setting, Turn};
+use crate::game::{replay, Event, Game};
+use crate::program::Program;
+use crate::shrink::shrink;
+
+/// How a game is played.
+#[derive(Clone, Copy)]
+pub struct Plan {
+    pub seed: u64,
+    pub pages: usize,
+    pub turns: usize,
+    /// The habit from beginning to end; else it changes now and then.
+    pub habit: Option<Habit>,
+    /// Whether records and maps are damaged, and at times healed again.
+    pub damaging: bool,
+}
+
+/// A case that goes wrong, as small as it got, and its turns in words.
+pub struct Found {
+    pub case: Case,
+    pub lines: Vec<String>,
+}
+
+impl Found {
+    pub fn shrunk(programs: [Program; 2], case: Case) -> Found {
+        let case = shrink(case, |case| replay(programs, case).is_err());
+        let lines = replay(programs, &case).expect_err("a case that goes wrong");
+        Found { case, lines }
+    }
+}
+
+impl fmt::Display for Found {
+    fn fmt(&self, f: &mut fmt::Formatter<'_>) -> fmt::Result {
+        write!(f, "{}", self.case.setting)?;
+        for line in &self.lines {
+            write!(f, "\n    {line}")?;
+        }
+        Ok(())
+    }
+}
+
+/// How often what was seen.
+#[derive(Clone, Copy, Default, Debug)]
+pub struct Seen {
+    /// Allocs and frees.
+    pub calls: u64,
+    pub allocated: u64,
+    pub freed: u64,
+    /// Refusals by number.
+    pub refused: [u64; 8],
+    /// First broken rules after damage, 0 for none.
+    pub broken: [u64; 7],
+}
+
+impl Seen {
+    fn note(&mut self, event: Event) {
+        match event {
+            Event::Allocated(_) => self.allocated += 1,
+            Event::Freed => self.freed += 1,
+            Event::Refused(number) => self.refused[usize::from(number)] += 1,
+            Event::Broken(rule) => self.broken[usize::from(rule)] += 1,
+            Event::Nothing => {}
+        }
+        if !matches!(event, Event::Broken(_) | Event::Nothing) {
+            self.calls += 1;
+        }
+    }
+}
+
+impl AddAssign for Seen {
+    fn add_assign(&mut self, other: Seen) {
+        self.calls += other.calls;
+        self.allocated += other.allocated;
+        self.freed += other.freed;
+        let pairs = self.refused.iter_mut().zip(other.refused);
+        for (sum, count) in pairs.chain(self.broken.iter_mut().zip(other.broken)) {
+            *sum += count;
+        }
+    }
+}
+
+struct Player {
+    rng: Rng,
+    plan: Plan,
+    habit: Habit,
+    /// Turns whose block is likely live.
+    live: Vec<usize>,
+    last_freed: Option<usize>,
+    /// Damage that is not healed; the same bits turned over once more heal it.
+    damage: Vec<Turn>,
+}
+
+impl Player {
+    fn turn(&mut self, game: &Game) -> Turn {
+        let rng = &mut self.rng;
+        if self.plan.habit.is_none() && rng.once_in(100) {
+            self.habit = Habit::any(rng);
+        }
+        // Unsound pools only refuse, so damage is healed after a few calls.
+        if !self.damage.is_empty() && rng.once_in(3) {
+            return self.damage.pop().expect("some damage");
+        }
+        if self.plan.damaging && rng.once_in(8) {
+            let damage = damage(rng, self.plan.pages, game);
+            self.damage.push(damage);
+            return damage;
+        }
+        if rng.below(16) < self.habit.allocs {
+            return Turn::Alloc(self.habit.size(rng, self.plan.pages));
+        }
+        let some = (!self.live.is_empty()).then(|| rng.pick(&self.live));
+        match (rng.below(10), some, self.last_freed) {
+            (0..=6, Some(taken), _) => Turn::FreeOf(taken),
+            (7, _, Some(freed)) => Turn::FreeOf(freed),
+            _ => {
+                let near = some.and_then(|taken| game.offset(Turn::FreeOf(taken)));
+                Turn::Free(support::offset(rng, self.plan.pages, near))
+            }
+        }
+    }
+
+    fn note(&mut self, number: usize, turn: Turn, event: Event) {
+        match (turn, event) {
+            (Turn::Alloc(_), Event::Allocated(_)) => self.live.push(number),
+            (Turn::FreeOf(taken), Event::Freed) => {
+                self.live.retain(|&turn| turn != taken);
+                self.last_freed = Some(taken);
+            }
+            _ => {}
+        }
+    }
+}
+
+/// Damage to one word of header, class records, page records or a map in a page.
+fn damage(rng: &mut Rng, pages: usize, game: &Game) -> Turn {
+    let page = rng.below(pages as u64) as usize;
+    let at = match rng.below(8) {
+        0 => 0,
+        1 | 2 => 8 + 8 * rng.below(18) as usize,
+        3 if game.map_bytes(page) > 0 => {
+            let word = rng.below(game.map_bytes(page) as u64 / 8) as usize;
+            152 + 16 * pages + 4_096 * page + 8 * word
+        }
+        4 => 152 + 16 * page,
+        _ => 160 + 16 * page,
+    };
+    let bits = match rng.below(5) {
+        // A page number for another one, in one of the links.
+        0 => rng.below(pages as u64 * 2) << rng.pick(&[0, 9, 25, 48]),
+        1 => u64::MAX << rng.below(64),
+        2 => rng.word(),
+        // Zero, as after a wild write.
+        3 => word(game.pool(), at),
+        _ => 1 << rng.below(64),
+    };
+    Turn::Damage { at, bits }
+}
+
+/// Plays a game to its end, at which everything is freed.
+fn play(programs: [Program; 2], plan: Plan) -> Result<Seen, Case> {
+    let mut rng = Rng::new(plan.seed);
+    let setting = Setting {
+        seed: plan.seed,
+        pages: plan.pages,
+        tail: rng.below(4_112) as usize,
+        scrambled: true,
+    };
+    let mut case = Case {
+        setting,
+        turns: Vec::new(),
+    };
+    let Ok(mut game) = Game::new(programs, setting) else {
+        return Err(case);
+    };
+    let mut seen = Seen::default();
+    let mut player = Player {
+        habit: plan.habit.unwrap_or_else(|| Habit::any(&mut rng)),
+        rng,
+        plan,
+        live: Vec::new(),
+        last_freed: None,
+        damage: Vec::new(),
+    };
+    for number in 0.. {
+        let turn = if number < plan.turns {
+            player.turn(&game)
+        } else if let Some(heal) = player.damage.pop() {
+            heal
+        } else if let Some(taken) = player.live.pop() {
+            Turn::FreeOf(taken)
+        } else {
+            break;
+        };
+        case.turns.push((number, turn));
+        let Ok(event) = game.play(number, turn) else {
+            return Err(case);
+        };
+        player.note(number, turn, event);
+        seen.note(event);
+    }
+    Ok(seen)
+}
+
+/// Plays the games until one goes wrong.
+pub fn play_all(
+    programs: [Program; 2],
+    plans: impl IntoIterator<Item = Plan>,
+) -> Result<Seen, Found> {
+    let mut sum = Seen::default();
+    for plan in plans {
+        match play(programs, plan) {
+            Ok(seen) => sum += seen,
+            Err(case) => return Err(Found::shrunk(programs, case)),
+        }
+    }
+    Ok(sum)
+}
