@@ -117,11 +117,8 @@ const COUNTS_REFUSED_FREES: Program = Program {
 /// Finds the double out and answers what would be printed.
 fn found(double: Program, other: Program) -> Found {
     let plans = (0..1_000).map(|seed| Plan {
-        seed,
-        pages: 1 + seed as usize % 16,
-        turns: 300,
-        habit: None,
         damaging: seed % 2 == 1,
+        ..Plan::new(seed, 1 + seed as usize % 16, 300)
     });
     match play_all([double, other], plans) {
         Err(found) => found,

@@ -44,15 +44,10 @@ fn compare(calls: u64, plans: impl Iterator<Item = Plan>) -> Seen {
 
 #[test]
 fn every_page_count() {
+    let games = 0..256 * times();
     let seen = compare(
         30_000,
-        (0..256 * times()).map(|game| Plan {
-            seed: game,
-            pages: 1 + game as usize % 256,
-            turns: 100,
-            habit: None,
-            damaging: false,
-        }),
+        games.map(|game| Plan::new(game, 1 + game as usize % 256, 100)),
     );
     assert_eq!(seen.refused[3], 0);
     assert!(seen.refused[4..].iter().all(|count| *count > 100));
@@ -60,15 +55,10 @@ fn every_page_count() {
 
 #[test]
 fn small_pools_fill_break_into_pieces_and_empty() {
+    let games = 0..300 * times();
     let seen = compare(
         120_000,
-        (0..300 * times()).map(|game| Plan {
-            seed: 10_000_000 + game,
-            pages: 1 + game as usize % 12,
-            turns: 400,
-            habit: None,
-            damaging: false,
-        }),
+        games.map(|game| Plan::new(10_000_000 + game, 1 + game as usize % 12, 400)),
     );
     assert_eq!(seen.refused[3], 0);
     assert!(seen.refused[4..].iter().all(|count| *count > 1_000));
@@ -76,17 +66,15 @@ fn small_pools_fill_break_into_pieces_and_empty() {
 
 #[test]
 fn pages_of_one_class_fill() {
+    let games = 0..18 * times();
     let seen = compare(
         25_000,
-        (0..18 * times()).map(|game| Plan {
-            seed: 20_000_000 + game,
-            pages: 1 + game as usize / 9 % 2,
-            turns: 1_400,
+        games.map(|game| Plan {
             habit: Some(Habit {
                 favourite: 8 << (game % 9),
                 allocs: 12,
             }),
-            damaging: false,
+            ..Plan::new(20_000_000 + game, 1 + game as usize / 9 % 2, 1_400)
         }),
     );
     assert!(seen.refused[4] > 1_000);
@@ -94,17 +82,16 @@ fn pages_of_one_class_fill() {
 
 #[test]
 fn large_pools_break_into_pieces() {
+    let kinds = [(64, 4_096), (130, 64), (255, 8_192), (256, 2_048)];
+    let games = (0..4 * times()).zip(kinds.into_iter().cycle());
     let seen = compare(
         10_000,
-        (0..4 * times()).map(|game| Plan {
-            seed: 30_000_000 + game,
-            pages: [64, 130, 255, 256][game as usize % 4],
-            turns: 2_200,
+        games.map(|(game, (pages, favourite))| Plan {
             habit: Some(Habit {
-                favourite: [4_096, 64, 8_192, 2_048][game as usize % 4],
+                favourite,
                 allocs: 9,
             }),
-            damaging: false,
+            ..Plan::new(30_000_000 + game, pages, 2_200)
         }),
     );
     assert!(seen.refused[4] > 100);
@@ -112,18 +99,16 @@ fn large_pools_break_into_pieces() {
 
 #[test]
 fn damaged_pools_are_validated_alike_and_stay_whole() {
+    let games = 0..300 * times();
     let seen = compare(
         40_000,
-        (0..300 * times()).map(|game| Plan {
-            seed: 40_000_000 + game,
-            pages: if game % 50 == 0 {
-                256
-            } else {
-                1 + game as usize % 9
-            },
-            turns: 200,
-            habit: None,
-            damaging: true,
+        games.map(|game| {
+            let few = 1 + game as usize % 9;
+            let pages = if game % 50 == 0 { 256 } else { few };
+            Plan {
+                damaging: true,
+                ..Plan::new(40_000_000 + game, pages, 200)
+            }
         }),
     );
     assert!(seen.refused[3] > 5_000);

@@ -23,6 +23,19 @@ pub struct Plan {
     pub damaging: bool,
 }
 
+impl Plan {
+    /// Any habits, nothing damaged.
+    pub fn new(seed: u64, pages: usize, turns: usize) -> Plan {
+        Plan {
+            seed,
+            pages,
+            turns,
+            habit: None,
+            damaging: false,
+        }
+    }
+}
+
 /// A case that goes wrong, as small as it got, and its turns in words.
 pub struct Found {
     pub case: Case,
