@@ -14,15 +14,16 @@
  * - pool is not null and names len bytes that stay mapped during the call:
  *   readable for pool_validate, writable too for the others. Any alignment
  *   will do.
- * - One call at a time: nobody else writes the pool's bytes during a call, so
- *   calls that share a pool need a lock. The library has none.
+ * - One call at a time: the proofs speak of bytes that nobody else writes
+ *   during the call, so calls that share a pool need a lock. The library has
+ *   none.
  * - Between calls only blocks' own bytes are written, and the bytes behind the
  *   last page. Header, records and maps are the calls' alone; where somebody
  *   wrote them nevertheless, pool_alloc and pool_free refuse as long as the
  *   records are unsound (POOL_NOT_SOUND).
- * - A block belongs to whoever was answered its offset, until it is freed. The
- *   host knows its size. Offsets hold in every process, wherever the pool is
- *   mapped there; pointers don't.
+ * - A block belongs to whoever was answered its offset, until it is freed; its
+ *   size is for the host to remember. Offsets hold in every process, wherever
+ *   the pool is mapped there; pointers don't.
  */
 #ifndef DANUMRIKAL_H
 #define DANUMRIKAL_H

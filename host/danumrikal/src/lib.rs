@@ -19,10 +19,11 @@
 //! # Ok::<(), Refusal>(())
 //! ```
 //!
-//! What the host program keeps: the memory and its mapping, locks where
-//! processes share a pool, which block is whose, and that between calls nobody
-//! writes header, records and maps. Where somebody does, [`alloc`] and [`free`]
-//! refuse with [`Refusal::NotSound`] as long as the records are unsound.
+//! What the host program keeps: the memory and its mapping, a lock where
+//! processes share a pool, which block is whose and how long, and that between
+//! calls nobody writes header, records and maps. Where somebody does, [`alloc`]
+//! and [`free`] refuse with [`Refusal::NotSound`] as long as the records are
+//! unsound.
 
 #![deny(missing_docs)]
 

@@ -2,12 +2,13 @@
 
 use crate::case::{Case, Turn};
 
-/// A case that still fails: fewer turns first, in halves, quarters and so on,
-/// then a smaller pool and smaller numbers, until nothing helps any more.
+/// A case that still fails: fewer turns first, left out in halves, quarters and
+/// so on, then a smaller pool and smaller numbers, until nothing helps any more.
 pub fn shrink(mut case: Case, fails: impl Fn(&Case) -> bool) -> Case {
     loop {
         let before = case.clone();
         fewer_turns(&mut case, &fails);
+        larger_chunks(&mut case, &fails);
         smaller_pool(&mut case, &fails);
         for place in 0..case.turns.len() {
             smaller_numbers(&mut case, place, &fails);
@@ -58,6 +59,22 @@ fn fewer_turns(case: &mut Case, fails: &impl Fn(&Case) -> bool) {
             if !left_out {
                 second += 1;
             }
+        }
+    }
+}
+
+/// Pages of two chunks fill in fewer turns.
+fn larger_chunks(case: &mut Case, fails: &impl Fn(&Case) -> bool) {
+    let mut larger = case.clone();
+    for (_, turn) in &mut larger.turns {
+        if matches!(turn, Turn::Alloc(..2_048)) {
+            *turn = Turn::Alloc(2_048);
+        }
+    }
+    if fails(&larger) {
+        fewer_turns(&mut larger, fails);
+        if larger.turns.len() < case.turns.len() {
+            *case = larger;
         }
     }
 }
