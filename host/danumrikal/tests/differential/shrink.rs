@@ -63,9 +63,10 @@ fn fewer_turns(case: &mut Case, fails: &impl Fn(&Case) -> bool) {
     }
 }
 
-/// Pages of two chunks fill in fewer turns.
+/// Pages of two chunks fill in fewer turns, where there are enough of them.
 fn larger_chunks(case: &mut Case, fails: &impl Fn(&Case) -> bool) {
     let mut larger = case.clone();
+    larger.setting.pages = 256;
     for (_, turn) in &mut larger.turns {
         if matches!(turn, Turn::Alloc(..2_048)) {
             *turn = Turn::Alloc(2_048);
