@@ -142,7 +142,7 @@ fn every_double_is_caught_in_a_handful_of_calls() {
         for found in [&different, &alone] {
             println!("{found}\n");
             assert!(found.lines.len() <= 4, "{found}");
-            assert_eq!(found.case.setting.pages, 1, "{found}");
+            assert!(found.case.setting.pages <= 2, "{found}");
         }
         let last = alone.lines.last().expect("some turn");
         assert!(last.contains(told), "{alone}");

@@ -12,6 +12,7 @@
 //! ```
 
 mod case;
+mod damage;
 mod doubles;
 mod game;
 mod player;

@@ -3,10 +3,10 @@
 use std::fmt;
 use std::ops::AddAssign;
 
-use reference::layout::word;
 use support::{Habit, Rng};
 
 use crate::case::{Case, Setting, Turn};
+use crate::damage::damage;
 use crate::game::{replay, Event, Game};
 use crate::program::Program;
 use crate::shrink::shrink;
@@ -107,6 +107,8 @@ struct Player {
     /// Turns whose block is likely live.
     live: Vec<usize>,
     last_freed: Option<usize>,
+    /// Damage that comes next.
+    planned: Vec<Turn>,
     /// Damage that is not healed; the same bits turned over once more heal it.
     damage: Vec<Turn>,
 }
@@ -117,14 +119,18 @@ impl Player {
         if self.plan.habit.is_none() && rng.once_in(100) {
             self.habit = Habit::any(rng);
         }
-        // Unsound pools only refuse, so damage is healed after a few calls.
-        if !self.damage.is_empty() && rng.once_in(3) {
-            return self.damage.pop().expect("some damage");
+        if self.plan.damaging && self.planned.is_empty() && rng.once_in(8) {
+            self.planned = damage(rng, self.plan.pages, game);
         }
-        if self.plan.damaging && rng.once_in(8) {
-            let damage = damage(rng, self.plan.pages, game);
+        if let Some(damage) = self.planned.pop() {
             self.damage.push(damage);
             return damage;
+        }
+        // Unsound pools only refuse, so damage is healed after a few calls.
+        if rng.once_in(3) {
+            if let Some(heal) = self.damage.pop() {
+                return heal;
+            }
         }
         if rng.below(16) < self.habit.allocs {
             return Turn::Alloc(self.habit.size(rng, self.plan.pages));
@@ -147,34 +153,11 @@ impl Player {
                 self.live.retain(|&turn| turn != taken);
                 self.last_freed = Some(taken);
             }
+            // Nothing to heal in a sound pool.
+            (_, Event::Broken(0)) => self.damage.clear(),
             _ => {}
         }
     }
-}
-
-/// Damage to one word of header, class records, page records or a map in a page.
-fn damage(rng: &mut Rng, pages: usize, game: &Game) -> Turn {
-    let page = rng.below(pages as u64) as usize;
-    let at = match rng.below(8) {
-        0 => 0,
-        1 | 2 => 8 + 8 * rng.below(18) as usize,
-        3 if game.map_bytes(page) > 0 => {
-            let word = rng.below(game.map_bytes(page) as u64 / 8) as usize;
-            152 + 16 * pages + 4_096 * page + 8 * word
-        }
-        4 => 152 + 16 * page,
-        _ => 160 + 16 * page,
-    };
-    let bits = match rng.below(5) {
-        // A page number for another one, in one of the links.
-        0 => rng.below(pages as u64 * 2) << rng.pick(&[0, 9, 25, 48]),
-        1 => u64::MAX << rng.below(64),
-        2 => rng.word(),
-        // Zero, as after a wild write.
-        3 => word(game.pool(), at),
-        _ => 1 << rng.below(64),
-    };
-    Turn::Damage { at, bits }
 }
 
 /// Plays a game to its end, at which everything is freed.
@@ -200,6 +183,7 @@ fn play(programs: [Program; 2], plan: Plan) -> Result<Seen, Case> {
         plan,
         live: Vec::new(),
         last_freed: None,
+        planned: Vec::new(),
         damage: Vec::new(),
     };
     for number in 0.. {
