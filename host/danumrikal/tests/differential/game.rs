@@ -375,7 +375,12 @@ pub fn replay(programs: [Program; 2], case: &Case) -> Result<(), Vec<String>> {
     for &(number, turn) in &case.turns {
         let name = match (turn, game.offset(turn)) {
             (Turn::Alloc(size), _) => format!("alloc {size}"),
-            (Turn::Damage { at, bits }, _) => format!("damage byte {at}: {bits:#018x}"),
+            (Turn::Damage { at, bits }, _) => {
+                format!(
+                    "damage from {} on, {bits:#018x}",
+                    game.place(game.pool.start + at)
+                )
+            }
             (_, Some(offset)) => format!("free {offset}"),
             (_, None) => "free of no block".into(),
         };
