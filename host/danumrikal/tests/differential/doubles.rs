@@ -78,15 +78,16 @@ const FORGETS_TO_COUNT_FREES: Program = Program {
 
 const LETS_THE_END_THROUGH: Program = Program {
     name: "lets the end through",
-    free: |pool, offset| {
-        let pages = (pool.len() - length(0)) / 4_112;
-        match (SECOND.free)(pool, offset) {
-            Err(5) if offset as usize == 4_096 * pages => Err(6),
-            answer => answer,
-        }
+    free: |pool, offset| match (SECOND.free)(pool, offset) {
+        Err(5) if offset as usize == 4_096 * pages(pool) => Err(6),
+        answer => answer,
     },
     ..SECOND
 };
+
+fn pages(pool: &[u8]) -> usize {
+    (pool.len() - length(0)) / (length(1) - length(0))
+}
 
 const WIPES_WHAT_IS_FREED: Program = Program {
     name: "wipes what is freed",
@@ -96,6 +97,17 @@ const WIPES_WHAT_IS_FREED: Program = Program {
             let block = danumrikal::block_range(pool, offset, 8).expect("a block's first bytes");
             pool[block].fill(0);
         }
+        answer
+    },
+    ..SECOND
+};
+
+const WIPES_THE_TAIL: Program = Program {
+    name: "wipes the tail",
+    format: |pool| {
+        let answer = (SECOND.format)(pool);
+        let pages = pages(pool);
+        pool[length(pages)..].fill(0);
         answer
     },
     ..SECOND
@@ -135,6 +147,7 @@ fn every_double_is_caught_in_a_handful_of_calls() {
         (FORGETS_TO_COUNT_FREES, "the pool shows other used than"),
         (LETS_THE_END_THROUGH, "refused with 6, where the live"),
         (WIPES_WHAT_IS_FREED, "bytes that no call writes changed"),
+        (WIPES_THE_TAIL, "format: bytes that no call writes changed"),
         (COUNTS_REFUSED_FREES, "a refused call changed the pool"),
     ] {
         let different = found(double, SECOND);

@@ -78,11 +78,13 @@ impl Game {
         let pages = setting.pages as u32;
         let answers = game.on_both(|program, pool| (program.format)(pool));
         if answers != [Ok(pages); 2] {
-            return Err(format!("format answers {answers:?}"));
+            return Err(format!("format: {answers:?}"));
         }
-        game.bytes_are_alike()?;
-        game.callers_bytes_are_kept(&game.view)?;
-        game.pool_shows_the_view()?;
+        let fresh = game
+            .bytes_are_alike()
+            .and_then(|()| game.callers_bytes_are_kept(&game.view))
+            .and_then(|()| game.pool_shows_the_view());
+        fresh.map_err(|wrong| format!("format: {wrong}"))?;
         Ok(game)
     }
 
@@ -144,6 +146,7 @@ impl Game {
             (program.broken_rule)(pool)
         });
         self.alike(rules.map(Event::Broken))?;
+        // After damage a sound pool is read by itself: no call told of it.
         self.live = live_blocks(self.pool()).map(|blocks| {
             let mut live = LiveSet::new(self.setting.pages as u32);
             for (offset, block) in blocks {
@@ -288,10 +291,12 @@ impl Game {
     }
 
     /// The records are sound, and the five that they show are the view's.
-    fn pool_shows_the_view(&mut self) -> Result<(), Wrong> {
-        let rules = self.on_both(|program, pool| (program.broken_rule)(pool));
-        if rules != [0; 2] {
-            return Err(format!("the call left broken rules {rules:?}"));
+    fn pool_shows_the_view(&self) -> Result<(), Wrong> {
+        for (program, bytes) in self.programs.iter().zip(&self.bytes) {
+            let rule = (program.broken_rule)(&bytes[self.pool.clone()]);
+            if rule != 0 {
+                return Err(format!("broken rule {rule}, says {}", program.name));
+            }
         }
         let shown = shown(self.pool()).ok_or("the length holds no pool")?;
         if shown == self.view {
