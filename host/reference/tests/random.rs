@@ -220,7 +220,7 @@ fn one_class_fills_the_pool() {
         }
         assert!(trial.view.free_runs.is_empty());
         trial.scramble();
-        // Full pages return to their list in the order of the gives.
+        // Full pages return to their list in the order of the frees.
         for _ in 0..200 / SLOWNESS {
             trial.step(Habit {
                 favourite: size,

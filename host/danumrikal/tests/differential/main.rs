@@ -63,19 +63,20 @@ fn small_pools_fill_break_into_pieces_and_empty() {
     );
     assert_eq!(seen.refused[3], 0);
     assert!(seen.refused[4..].iter().all(|count| *count > 1_000));
+    assert!(seen.allocated.iter().all(|count| *count > 1_000));
 }
 
 #[test]
 fn pages_of_one_class_fill() {
     let games = 0..18 * times();
     let seen = compare(
-        25_000,
+        35_000,
         games.map(|game| Plan {
             habit: Some(Habit {
                 favourite: 8 << (game % 9),
-                allocs: 12,
+                allocs: 13,
             }),
-            ..Plan::new(20_000_000 + game, 1 + game as usize / 9 % 2, 1_400)
+            ..Plan::new(20_000_000 + game, 1 + game as usize / 9 % 2, 2_000)
         }),
     );
     assert!(seen.refused[4] > 1_000);

@@ -3,6 +3,7 @@
 use std::fmt;
 use std::ops::AddAssign;
 
+use reference::{need, Need};
 use support::{Habit, Rng};
 
 use crate::case::{Case, Setting, Turn};
@@ -65,7 +66,8 @@ impl fmt::Display for Found {
 pub struct Seen {
     /// Allocs and frees.
     pub calls: u64,
-    pub allocated: u64,
+    /// By class, and runs last.
+    pub allocated: [u64; 10],
     pub freed: u64,
     /// Refusals by number.
     pub refused: [u64; 8],
@@ -74,13 +76,19 @@ pub struct Seen {
 }
 
 impl Seen {
-    fn note(&mut self, event: Event) {
-        match event {
-            Event::Allocated(_) => self.allocated += 1,
-            Event::Freed => self.freed += 1,
-            Event::Refused(number) => self.refused[usize::from(number)] += 1,
-            Event::Broken(rule) => self.broken[usize::from(rule)] += 1,
-            Event::Nothing => {}
+    fn note(&mut self, turn: Turn, event: Event) {
+        match (turn, event) {
+            (Turn::Alloc(size), Event::Allocated(_)) => {
+                let place = match need(size) {
+                    Need::Chunk(class) => class.index(),
+                    Need::Run(_) => 9,
+                };
+                self.allocated[place] += 1;
+            }
+            (_, Event::Freed) => self.freed += 1,
+            (_, Event::Refused(number)) => self.refused[usize::from(number)] += 1,
+            (_, Event::Broken(rule)) => self.broken[usize::from(rule)] += 1,
+            _ => {}
         }
         if !matches!(event, Event::Broken(_) | Event::Nothing) {
             self.calls += 1;
@@ -91,10 +99,10 @@ impl Seen {
 impl AddAssign for Seen {
     fn add_assign(&mut self, other: Seen) {
         self.calls += other.calls;
-        self.allocated += other.allocated;
         self.freed += other.freed;
-        let pairs = self.refused.iter_mut().zip(other.refused);
-        for (sum, count) in pairs.chain(self.broken.iter_mut().zip(other.broken)) {
+        let sums = [&mut self.allocated[..], &mut self.refused, &mut self.broken];
+        let counts = [&other.allocated[..], &other.refused, &other.broken];
+        for (sum, count) in sums.into_iter().flatten().zip(counts.into_iter().flatten()) {
             *sum += count;
         }
     }
@@ -201,7 +209,7 @@ fn play(programs: [Program; 2], plan: Plan) -> Result<Seen, Case> {
             return Err(case);
         };
         player.note(number, turn, event);
-        seen.note(event);
+        seen.note(turn, event);
     }
     Ok(seen)
 }
