@@ -147,7 +147,7 @@ fn every_double_is_caught_in_a_handful_of_calls() {
         (FORGETS_TO_COUNT_FREES, "the pool shows other used than"),
         (LETS_THE_END_THROUGH, "refused with 6, where the live"),
         (WIPES_WHAT_IS_FREED, "bytes that no call writes changed"),
-        (WIPES_THE_TAIL, "format: bytes that no call writes changed"),
+        (WIPES_THE_TAIL, "bytes that no call writes changed"),
         (COUNTS_REFUSED_FREES, "a refused call changed the pool"),
     ] {
         let different = found(double, SECOND);
@@ -157,8 +157,8 @@ fn every_double_is_caught_in_a_handful_of_calls() {
             assert!(found.lines.len() <= 4, "{found}");
             assert!(found.case.setting.pages <= 2, "{found}");
         }
-        let last = alone.lines.last().expect("some turn");
-        assert!(last.contains(told), "{alone}");
+        let (_, outcome) = alone.lines.last().expect("some turn");
+        assert!(outcome.contains(told), "{alone}");
     }
 }
 

@@ -78,13 +78,11 @@ impl Game {
         let pages = setting.pages as u32;
         let answers = game.on_both(|program, pool| (program.format)(pool));
         if answers != [Ok(pages); 2] {
-            return Err(format!("format: {answers:?}"));
+            return Err(format!("{answers:?}"));
         }
-        let fresh = game
-            .bytes_are_alike()
-            .and_then(|()| game.callers_bytes_are_kept(&game.view))
-            .and_then(|()| game.pool_shows_the_view());
-        fresh.map_err(|wrong| format!("format: {wrong}"))?;
+        game.bytes_are_alike()?;
+        game.callers_bytes_are_kept(&game.view)?;
+        game.pool_shows_the_view()?;
         Ok(game)
     }
 
@@ -372,10 +370,13 @@ fn map_bytes(class: Option<Class>) -> usize {
         .map_or(0, |class| 8 * class.bitmap_words())
 }
 
-/// Plays a case; what is found wrong in it, if anything, with the turns up to
-/// there in words.
-pub fn replay(programs: [Program; 2], case: &Case) -> Result<(), Vec<String>> {
-    let mut game = Game::new(programs, case.setting).map_err(|wrong| vec![wrong])?;
+/// A call or damage, and what came of it, in words.
+pub type Line = (String, String);
+
+/// Plays a case; where something is found wrong in it, the turns up to there.
+pub fn replay(programs: [Program; 2], case: &Case) -> Result<(), Vec<Line>> {
+    let game = Game::new(programs, case.setting);
+    let mut game = game.map_err(|wrong| vec![("format".into(), wrong)])?;
     let mut lines = Vec::new();
     for &(number, turn) in &case.turns {
         let name = match (turn, game.offset(turn)) {
@@ -390,9 +391,9 @@ pub fn replay(programs: [Program; 2], case: &Case) -> Result<(), Vec<String>> {
             (_, None) => "free of no block".into(),
         };
         match game.play(number, turn) {
-            Ok(event) => lines.push(format!("{name}: {event}")),
+            Ok(event) => lines.push((name, event.to_string())),
             Err(wrong) => {
-                lines.push(format!("{name}: {wrong}"));
+                lines.push((name, wrong));
                 return Err(lines);
             }
         }

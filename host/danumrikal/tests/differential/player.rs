@@ -8,7 +8,7 @@ use support::{Habit, Rng};
 
 use crate::case::{Case, Setting, Turn};
 use crate::damage::damage;
-use crate::game::{replay, Event, Game};
+use crate::game::{replay, Event, Game, Line};
 use crate::program::Program;
 use crate::shrink::shrink;
 
@@ -40,7 +40,7 @@ impl Plan {
 /// A case that goes wrong, as small as it got, and its turns in words.
 pub struct Found {
     pub case: Case,
-    pub lines: Vec<String>,
+    pub lines: Vec<Line>,
 }
 
 impl Found {
@@ -54,8 +54,19 @@ impl Found {
 impl fmt::Display for Found {
     fn fmt(&self, f: &mut fmt::Formatter<'_>) -> fmt::Result {
         write!(f, "{}", self.case.setting)?;
-        for line in &self.lines {
-            write!(f, "\n    {line}")?;
+        // Of many equal calls in a row the first and the last will do.
+        for alike in self.lines.chunk_by(|left, right| left.0 == right.0) {
+            let between = match alike.len() {
+                0..6 => 0,
+                count => count - 2,
+            };
+            for (place, (call, outcome)) in alike.iter().enumerate() {
+                if place == 0 || place > between {
+                    write!(f, "\n    {call}: {outcome}")?;
+                } else if place == between {
+                    write!(f, "\n    {call}, {between} times")?;
+                }
+            }
         }
         Ok(())
     }
