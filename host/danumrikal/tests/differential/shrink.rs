@@ -117,6 +117,12 @@ fn smaller_numbers(case: &mut Case, place: usize, fails: &impl Fn(&Case) -> bool
                     break;
                 }
             }
+            // A word further ahead leaves room for fewer pages.
+            lower(case, (at / 8) as u32, fails, |case, _, word| {
+                if let Turn::Damage { at, .. } = &mut case.turns[place].1 {
+                    *at = 8 * word as usize;
+                }
+            });
         }
         Turn::FreeOf(_) => {}
     }
