@@ -2,3 +2,4 @@ pub mod Serving
 pub mod Room
 pub mod Alike
 pub mod Claims
+pub mod Example
