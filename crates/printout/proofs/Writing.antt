@@ -5,7 +5,7 @@ use Prim.Native.Nat.{ℕ, zero, suc, _+_, _-_, _/_, _%_, _≤_, _<_}
 use native.Mathlib.Numerals.{add-one}
 use native.Mathlib.Nat.{add-zero}
 use native.Mathlib.Omega.{arith}
-use lib.ListN.{length, getD, take, drop, set, length-append}
+use lib.ListN.{length, getD, drop, set, length-append}
 use lib.Seq.{sets, drop-cons, drop-length, length-sets}
 use Rattle.printout.specs.Text.{tenTo, digits, places, decimal, phrase, line, written}
 

@@ -1,7 +1,9 @@
 -- Text in ASCII: numbers in decimal, lines, and text written into a slice. Assumes nothing.
 use Prim.Native.Nat.{ℕ, zero, suc, _+_, _*_, _/_, _%_}
+use mathlib.Core.Path.{_≡_}
 use mathlib.Core.List.{List, [], _∷_, _++_}
 use lib.Dec.{ltb}
+use lib.ListN.{length}
 use lib.Seq.{sets}
 use Rattle.base.specs.Tests.{pick}
 
@@ -41,3 +43,7 @@ line word v = phrase word v ++ (10 ∷ [])
 -- the text from place n on; what would lie past the end is dropped
 unfoldable pub written : List ℕ → ℕ → List ℕ → List ℕ
 written s n text = sets s n text
+
+-- a function that prints a text from place n on makes u of the slice s, and answers the place r after it
+abbrev pub Prints : List ℕ → List ℕ → ℕ → ℕ → List ℕ → Type 0
+Prints s u n r text = (r ≡ n + length text) × (u ≡ written s n text)

@@ -1,14 +1,13 @@
 // Text written into a slice: words, numbers and lines. What would lie past the slice's end is dropped.
 ghost use mathlib.Core.Path.{_≡_};
-ghost use mathlib.Core.List.{[], _∷_};
 ghost use Prim.Native.Nat.{_+_, _/_, _%_, _≤_, _<_};
-ghost use lib.ListN.{length, set};
-ghost use Rattle.printout.specs.Text.{tenTo, manyPlaces, places, decimal, phrase, line, written};
+ghost use lib.ListN.{length};
+ghost use Rattle.printout.specs.Text.{tenTo, manyPlaces, places, decimal, phrase, line, written, Prints};
 
 // Writes a text from place n on, and answers the place after it.
 pub fn put_text(out: &mut [u8], n: usize, text: &[u8]) -> usize
     requires { ⌜ n + length (now text) ≤ 1048576 ⌝ }
-    ensures { λ r. ⌜ (r ≡ n + length (now (text .entry))) × (now (out .exit) ≡ written (now (out .entry)) n (now (text .entry))) ⌝ }
+    ensures { λ r. ⌜ Prints (now (out .entry)) (now (out .exit)) n r (now (text .entry)) ⌝ }
 {
     let mut i = 0;
     while i < text.len() {

@@ -1,5 +1,5 @@
 -- What the code prints is the line of the outcome. Assumes nothing.
-use mathlib.Core.Path.{_≡_, refl, sym, _∙_, ap}
+use mathlib.Core.Path.{_≡_, refl}
 use mathlib.Core.Bool.{false}
 use mathlib.Core.List.{List}
 use Prim.Native.Nat.{ℕ, _+_, _≤_}
@@ -9,12 +9,8 @@ use Rattle.base.specs.Tests.{pick}
 use Rattle.answers.specs.Outcome.{Outcome, numberOf, granted, refused}
 use Rattle.answers.specs.declared.Refusal.{Refusal}
 use Rattle.answers.specs.declared.Refusal.the-variants.{TooShort, TooLong, NotSound, NoRoom, Outside, NotTaken, NotAStart, Unreadable, ScriptTooLong}
-use Rattle.printout.specs.Text.{line, written}
+use Rattle.printout.specs.Text.{line, written, Prints}
 use Rattle.replies.specs.Replies.{poolWord, atWord, noWord, backLine, refusalLine, outcomeLine, formatLine, allocLine, freeLine}
-
--- what a function that prints the text leaves and answers
-abbrev pub Prints : List ℕ → List ℕ → ℕ → ℕ → List ℕ → Type 0
-Prints s u n m text = (m ≡ n + length text) × (u ≡ written s n text)
 
 refusal-counts : (r : Refusal) → eqb (numberOf r) 0 ≡ false
 refusal-counts TooShort = refl

@@ -5,25 +5,23 @@ use format::Formatted;
 use freeing::Freed;
 use printout::put_line;
 use printout::put_text;
-ghost use mathlib.Core.Path.{_≡_};
-ghost use Prim.Native.Nat.{_+_, _≤_};
-ghost use lib.ListN.{length};
+ghost use Prim.Native.Nat.{_≤_};
 ghost use Rattle.format.specs.Format as formats;
 ghost use Rattle.allocating.specs.Allocating as allocs;
 ghost use Rattle.freeing.specs.Freeing as frees;
-ghost use Rattle.printout.specs.Text.{written};
+ghost use Rattle.printout.specs.Text.{Prints};
 ghost use Rattle.replies.specs.Replies.{refusalLine, formatLine, allocLine, freeLine};
 
 pub fn put_refusal(out: &mut [u8], n: usize, r: Refusal) -> usize
     requires { ⌜ n ≤ 1000000 ⌝ }
-    ensures { λ m. ⌜ (m ≡ n + length (refusalLine r)) × (now (out .exit) ≡ written (now (out .entry)) n (refusalLine r)) ⌝ }
+    ensures { λ m. ⌜ Prints (now (out .entry)) (now (out .exit)) n m (refusalLine r) ⌝ }
 {
     put_line(out, n, b"no ", answers::number(r) as u32)
 }
 
 pub fn put_formatted(out: &mut [u8], n: usize, f: Formatted) -> usize
     requires { ⌜ n ≤ 1000000 ⌝ }
-    ensures { λ m. ⌜ (m ≡ n + length (formatLine (formats.outcomeOf f))) × (now (out .exit) ≡ written (now (out .entry)) n (formatLine (formats.outcomeOf f))) ⌝ }
+    ensures { λ m. ⌜ Prints (now (out .entry)) (now (out .exit)) n m (formatLine (formats.outcomeOf f)) ⌝ }
 {
     match f {
         Formatted::Pages(pages) => put_line(out, n, b"pool ", pages as u32),
@@ -33,7 +31,7 @@ pub fn put_formatted(out: &mut [u8], n: usize, f: Formatted) -> usize
 
 pub fn put_allocated(out: &mut [u8], n: usize, a: Allocated) -> usize
     requires { ⌜ n ≤ 1000000 ⌝ }
-    ensures { λ m. ⌜ (m ≡ n + length (allocLine (allocs.outcomeOf a))) × (now (out .exit) ≡ written (now (out .entry)) n (allocLine (allocs.outcomeOf a))) ⌝ }
+    ensures { λ m. ⌜ Prints (now (out .entry)) (now (out .exit)) n m (allocLine (allocs.outcomeOf a)) ⌝ }
 {
     match a {
         Allocated::At(o) => {
@@ -46,7 +44,7 @@ pub fn put_allocated(out: &mut [u8], n: usize, a: Allocated) -> usize
 
 pub fn put_freed(out: &mut [u8], n: usize, f: Freed) -> usize
     requires { ⌜ n ≤ 1000000 ⌝ }
-    ensures { λ m. ⌜ (m ≡ n + length (freeLine (frees.outcomeOf f))) × (now (out .exit) ≡ written (now (out .entry)) n (freeLine (frees.outcomeOf f))) ⌝ }
+    ensures { λ m. ⌜ Prints (now (out .entry)) (now (out .exit)) n m (freeLine (frees.outcomeOf f)) ⌝ }
 {
     match f {
         Freed::Done => put_text(out, n, b"back\n"),

@@ -1,19 +1,18 @@
 -- On sound bytes a script is served as on the state that they show. Assumes nothing.
 use mathlib.Core.Path.{_≡_, refl, sym, _∙_, ap}
-use mathlib.Core.List.{List, [], _∷_, _++_}
+use mathlib.Core.List.{List, [], _∷_}
 use mathlib.Core.Option.{Option, none, some}
 use Prim.Native.Nat.{ℕ, zero, suc, _≤_, _<_}
 use native.Mathlib.Omega.{arith}
 use lib.ListN.{length}
 use Rattle.base.specs.Tests.{pick}
 use Rattle.words.specs.Word.{Bytes}
-use Rattle.answers.specs.Outcome.{Outcome, granted}
 use Rattle.model.specs.State.{State}
 use Rattle.model.specs.Calls.{Call, fresh}
 use Rattle.records.specs.Header.{headerAt}
 use Rattle.format.specs.Format.{shortest, tooLong, formatOutcome, formatted}
 use Rattle.rules.specs.Fields.{run, next as nextOf}
-use Rattle.rules.specs.Read.{trail, isHead, headsOf, withLengths, readFields}
+use Rattle.rules.specs.Read.{trail, headsOf, withLengths, readFields}
 use Rattle.rules.specs.Rules.{freeIn}
 use Rattle.rules.specs.Bytes.{pagesIn, imageOf, fieldsOf, brokenRule, read}
 use Rattle.rules.proofs.Rules.{rule6-says}
@@ -23,8 +22,8 @@ use Rattle.pool.proofs.Demands.{all-demands}
 use Rattle.lines.specs.Lines.{lines, request}
 use Rattle.printout.specs.Text.{line, written}
 use Rattle.replies.specs.Replies.{poolWord, outcomeLine, formatLine, replyLine}
-use Rattle.summary.specs.Summary.{summaryLine, freeRuns, summaryOf}
-use Rattle.script.specs.Script.{pages, reply, next, replies, final, joined, summary, session, transcript}
+use Rattle.summary.specs.Summary.{freeRuns, summaryOf}
+use Rattle.script.specs.Script.{pages, reply, next, replies, final, summary, session, transcript}
 use Rattle.script.specs.Served.{replyOn, nextOn, repliesOn, finalOn, textOn, poolOn, sessionOn, printoutOn}
 
 -- ---- the lines

@@ -1,8 +1,8 @@
 -- The claims of `specs/Claim.antt`.
 use mathlib.Core.Path.{_≡_, refl, ap}
 use mathlib.Core.Bool.{Bool, true, false}
-use mathlib.Core.List.{List, [], _∷_, _++_}
-use Prim.Native.Nat.{ℕ, zero, suc, _+_, _*_, _≤_, _<_}
+use mathlib.Core.List.{List, [], _∷_}
+use Prim.Native.Nat.{ℕ, zero, suc, _≤_, _<_}
 use native.Mathlib.Omega.{arith}
 use lib.Dec.{leb}
 use lib.ListN.{length, getD, take, length-append}
@@ -13,9 +13,8 @@ use Rattle.answers.specs.declared.Refusal.the-variants.{ScriptTooLong}
 use Rattle.model.specs.State.{State}
 use Rattle.model.specs.Calls.{fresh}
 use Rattle.lines.specs.Lines.{lines, request}
-use Rattle.printout.specs.Text.{line, written}
+use Rattle.printout.specs.Text.{line, written, Prints}
 use Rattle.replies.specs.Replies.{poolWord, noWord, refusalLine}
-use Rattle.replies.proofs.Spoken.{Prints}
 use Rattle.script.specs.Script.{longest, pages, reply, next, replies, final, session, transcript, printout}
 use Rattle.script.specs.Claim.{Claims}
 use Rattle.script.proofs.Room.{line-few, session-fits}

@@ -1,7 +1,7 @@
 -- How long the lines of a printout are. Assumes nothing.
-use mathlib.Core.Path.{_≡_, refl, sym, _∙_, ap}
+use mathlib.Core.Path.{_≡_, refl, sym, _∙_}
 use mathlib.Core.Bool.{Bool, true, false, cond}
-use mathlib.Core.List.{List, [], _∷_, _++_}
+use mathlib.Core.List.{List, [], _∷_}
 use mathlib.Core.Option.{Option, none, some}
 use Prim.Native.Nat.{ℕ, suc, _+_, _*_, _≤_}
 use native.Mathlib.Omega.{arith}
@@ -14,7 +14,7 @@ use Rattle.answers.specs.declared.Refusal.the-variants.{Unreadable}
 use Rattle.model.specs.State.{State}
 use Rattle.model.specs.Calls.{Call, Alloc, Free, step}
 use Rattle.pool.specs.Calls.{outcome, answered}
-use Rattle.lines.specs.Lines.{before, lines, begins, callWith, request}
+use Rattle.lines.specs.Lines.{before, lines, begins, request}
 use Rattle.lines.proofs.Words.{begins-long}
 use Rattle.printout.specs.Text.{digits, places, decimal, phrase, line}
 use Rattle.printout.proofs.Digits.{decimal-few}

@@ -1,5 +1,5 @@
 -- A script served line by line. Assumes nothing.
-use mathlib.Core.Path.{_≡_, refl, sym, _∙_, ap}
+use mathlib.Core.Path.{_≡_, refl, sym, _∙_}
 use mathlib.Core.List.{List, [], _∷_, _++_}
 use mathlib.Core.Option.{Option, none, some}
 use Prim.Native.Nat.{ℕ, _+_, _*_, _≤_}
@@ -11,20 +11,15 @@ use Rattle.model.specs.Calls.{Call, Alloc, Free}
 use Rattle.pool.specs.Calls.{answered, after}
 use Rattle.format.specs.Format.{formatOutcome, formatted}
 use Rattle.lines.specs.Lines.{lines, request}
-use Rattle.printout.specs.Text.{written}
+use Rattle.printout.specs.Text.{written, Prints}
 use Rattle.printout.proofs.Writing.{written-none, written-append}
 use Rattle.replies.specs.Replies.{refusalLine, formatLine, allocLine, freeLine, replyLine}
-use Rattle.replies.proofs.Spoken.{Prints}
 use Rattle.summary.specs.Summary.{summaryOf}
 use Rattle.script.specs.Script.{joined}
-use Rattle.script.specs.Served.{replyOn, nextOn, repliesOn, finalOn, textOn, poolOn, sessionOn, printoutOn}
+use Rattle.script.specs.Served.{replyOn, nextOn, Serves, repliesOn, textOn, poolOn, sessionOn, printoutOn}
 use Rattle.script.proofs.Room.{format-few}
 
 -- ---- one line
-
--- what the function that serves a request on the pool s leaves and answers
-abbrev pub Serves : List ℕ → List ℕ → List ℕ → List ℕ → ℕ → ℕ → Option Call → Type 0
-Serves s t u v n m x = (m ≡ n + length (replyOn s x)) × (v ≡ written u n (replyOn s x)) × (t ≡ nextOn s x)
 
 module _ (s t u v : List ℕ) (n m : ℕ) where
   module _ (o : Outcome) where

@@ -1,5 +1,6 @@
 -- The same on the bytes of a pool, in the order of the code. Assumes nothing.
-use Prim.Native.Nat.{ℕ}
+use mathlib.Core.Path.{_≡_}
+use Prim.Native.Nat.{ℕ, _+_}
 use mathlib.Core.List.{List, [], _∷_, _++_}
 use mathlib.Core.Option.{Option, none, some}
 use lib.ListN.{length}
@@ -8,6 +9,7 @@ use Rattle.model.specs.Calls.{Call}
 use Rattle.format.specs.Format.{formatOutcome, formatted}
 use Rattle.pool.specs.Calls.{answered, after}
 use Rattle.lines.specs.Lines.{lines, request}
+use Rattle.printout.specs.Text.{written}
 use Rattle.replies.specs.Replies.{refusalLine, formatLine, replyLine}
 use Rattle.summary.specs.Summary.{summaryOf}
 use Rattle.script.specs.Script.{joined}
@@ -19,6 +21,10 @@ replyOn s (some call) = replyLine call (answered 2 s call)
 unfoldable pub nextOn : List ℕ → Option Call → List ℕ
 nextOn s none = s
 nextOn s (some call) = after 2 s call
+
+-- a function that serves a request on the pool s makes t of it, prints the reply from place n of the slice u on, which becomes v, and answers the place r after it
+abbrev pub Serves : List ℕ → List ℕ → List ℕ → List ℕ → ℕ → ℕ → Option Call → Type 0
+Serves s t u v n r x = (r ≡ n + length (replyOn s x)) × (v ≡ written u n (replyOn s x)) × (t ≡ nextOn s x)
 
 abbrev pub repliesOn : List ℕ → List (List ℕ) → List (List ℕ)
 repliesOn s [] = []

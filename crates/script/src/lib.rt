@@ -12,26 +12,26 @@ ghost use Rattle.lines.specs.Lines.{lines, request, callOf};
 ghost use Rattle.printout.specs.Text.{written};
 ghost use Rattle.replies.specs.Replies.{formatLine};
 ghost use Rattle.script.specs.Script.{transcript, printout};
-ghost use Rattle.script.specs.Served.{replyOn, nextOn, textOn, poolOn};
+ghost use Rattle.script.specs.Served.{Serves, textOn, poolOn};
 
 // Each function writes from place n on and answers the place after its lines.
 fn serve_take(pool: &mut [u8], size: u32, out: &mut [u8], n: usize) -> usize
     requires { ⌜ n ≤ 1000000 ⌝ }
-    ensures { λ r. ⌜ (r ≡ n + length (replyOn (now (pool .entry)) (some (Alloc size)))) × (now (out .exit) ≡ written (now (out .entry)) n (replyOn (now (pool .entry)) (some (Alloc size)))) × (now (pool .exit) ≡ nextOn (now (pool .entry)) (some (Alloc size))) ⌝ }
+    ensures { λ r. ⌜ Serves (now (pool .entry)) (now (pool .exit)) (now (out .entry)) (now (out .exit)) n r (some (Alloc size)) ⌝ }
 {
     replies::put_allocated(out, n, pool::alloc(pool, size))
 }
 
 fn serve_give(pool: &mut [u8], at: Offset, out: &mut [u8], n: usize) -> usize
     requires { ⌜ n ≤ 1000000 ⌝ }
-    ensures { λ r. ⌜ (r ≡ n + length (replyOn (now (pool .entry)) (some (Free (at .0))))) × (now (out .exit) ≡ written (now (out .entry)) n (replyOn (now (pool .entry)) (some (Free (at .0))))) × (now (pool .exit) ≡ nextOn (now (pool .entry)) (some (Free (at .0)))) ⌝ }
+    ensures { λ r. ⌜ Serves (now (pool .entry)) (now (pool .exit)) (now (out .entry)) (now (out .exit)) n r (some (Free (at .0))) ⌝ }
 {
     replies::put_freed(out, n, pool::free(pool, at))
 }
 
 fn serve_request(pool: &mut [u8], r: Request, out: &mut [u8], n: usize) -> usize
     requires { ⌜ n ≤ 1000000 ⌝ }
-    ensures { λ m. ⌜ (m ≡ n + length (replyOn (now (pool .entry)) (callOf r))) × (now (out .exit) ≡ written (now (out .entry)) n (replyOn (now (pool .entry)) (callOf r))) × (now (pool .exit) ≡ nextOn (now (pool .entry)) (callOf r)) ⌝ }
+    ensures { λ m. ⌜ Serves (now (pool .entry)) (now (pool .exit)) (now (out .entry)) (now (out .exit)) n m (callOf r) ⌝ }
 {
     match r {
         Request::Take(size) => serve_take(pool, size, out, n),
@@ -42,7 +42,7 @@ fn serve_request(pool: &mut [u8], r: Request, out: &mut [u8], n: usize) -> usize
 
 fn serve_line(pool: &mut [u8], line: &[u8], out: &mut [u8], n: usize) -> usize
     requires { ⌜ n ≤ 1000000 ⌝ }
-    ensures { λ r. ⌜ (r ≡ n + length (replyOn (now (pool .entry)) (request (now (line .entry))))) × (now (out .exit) ≡ written (now (out .entry)) n (replyOn (now (pool .entry)) (request (now (line .entry))))) × (now (pool .exit) ≡ nextOn (now (pool .entry)) (request (now (line .entry)))) ⌝ }
+    ensures { λ r. ⌜ Serves (now (pool .entry)) (now (pool .exit)) (now (out .entry)) (now (out .exit)) n r (request (now (line .entry))) ⌝ }
 {
     serve_request(pool, lines::read_line(line), out, n)
 }

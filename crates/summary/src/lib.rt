@@ -3,10 +3,9 @@ use printout::put_line;
 use printout::put_phrase;
 use tests::one_if;
 ghost use mathlib.Core.Path.{_≡_};
-ghost use Prim.Native.Nat.{_+_, _≤_};
-ghost use lib.ListN.{length};
+ghost use Prim.Native.Nat.{_≤_};
 ghost use Rattle.rules.specs.Bytes.{pagesIn};
-ghost use Rattle.printout.specs.Text.{written};
+ghost use Rattle.printout.specs.Text.{Prints};
 ghost use Rattle.summary.specs.Summary.{summaryLine, freeRuns, summaryOf};
 
 // The free runs of a pool of n pages: those pages that are the first of one.
@@ -25,7 +24,7 @@ fn free_runs(pool: &[u8], w: u8, n: usize) -> u32
 
 fn put_counts(out: &mut [u8], n: usize, free: u32, runs: u32) -> usize
     requires { ⌜ n ≤ 1000000 ⌝ }
-    ensures { λ r. ⌜ (r ≡ n + length (summaryLine free runs)) × (now (out .exit) ≡ written (now (out .entry)) n (summaryLine free runs)) ⌝ }
+    ensures { λ r. ⌜ Prints (now (out .entry)) (now (out .exit)) n r (summaryLine free runs) ⌝ }
 {
     let after = put_phrase(out, n, b"free ", free);
     put_line(out, after, b" runs ", runs)
@@ -34,7 +33,7 @@ fn put_counts(out: &mut [u8], n: usize, free: u32, runs: u32) -> usize
 // Writes the line from place n on, and answers the place after it.
 pub fn put_summary(pool: &[u8], w: u8, out: &mut [u8], n: usize) -> usize
     requires { ⌜ (pagesIn w (now pool) ≤ 65535) × (n ≤ 1000000) ⌝ }
-    ensures { λ r. ⌜ (r ≡ n + length (summaryOf w (now (pool .entry)))) × (now (out .exit) ≡ written (now (out .entry)) n (summaryOf w (now (pool .entry)))) ⌝ }
+    ensures { λ r. ⌜ Prints (now (out .entry)) (now (out .exit)) n r (summaryOf w (now (pool .entry))) ⌝ }
 {
     let h = records::get_header(pool);
     let runs = free_runs(pool, w, validate::page_count(w, pool.len()));

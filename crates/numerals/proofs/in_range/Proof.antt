@@ -1,5 +1,4 @@
 use borrow.Author.Needs.{needs}
-use mathlib.Core.Path.{sym, _∙_}
 use Rattle.numerals.proofs.Values.{capped-fits}
 use Rattle.numerals.proofs.in_range.Statement.{statement}
 use Rattle.numerals.proofs.in_range.Tie as tie
