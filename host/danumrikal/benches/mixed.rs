@@ -4,16 +4,7 @@
 use std::hint::black_box;
 use std::time::Instant;
 
-struct Rng(u64);
-
-impl Rng {
-    fn below(&mut self, n: u64) -> u64 {
-        self.0 ^= self.0 << 13;
-        self.0 ^= self.0 >> 7;
-        self.0 ^= self.0 << 17;
-        (self.0 >> 11) % n
-    }
-}
+use support::{mixed_size, Rng};
 
 /// Seconds of one run of calls on a fresh pool.
 fn run(
@@ -22,16 +13,14 @@ fn run(
     alloc: impl Fn(&mut [u8], u32) -> Option<u32>,
     free: impl Fn(&mut [u8], u32),
 ) -> f64 {
-    let mut pool = vec![0; 152 + 4_112 * pages];
+    let mut pool = vec![0; support::length(pages)];
     format(&mut pool);
-    let mut rng = Rng(0x2545_f491_4f6c_dd1d);
+    let mut rng = Rng::new(1);
     let mut live = Vec::with_capacity(100_000);
     let start = Instant::now();
     for _ in 0..100_000 {
         if live.is_empty() || rng.below(100) < 52 {
-            let class = rng.below(10);
-            let size = 1 + rng.below(8 << class) as u32;
-            live.extend(alloc(black_box(&mut pool), size));
+            live.extend(alloc(black_box(&mut pool), mixed_size(&mut rng)));
         } else {
             let at = rng.below(live.len() as u64) as usize;
             free(black_box(&mut pool), live.swap_remove(at));

@@ -3,17 +3,15 @@
 use std::hint::black_box;
 use std::time::Instant;
 
+use support::{mixed_size, Rng};
+
 /// A pool with blocks of every class and some runs, about half of it taken.
 fn mixed(pages: usize) -> Vec<u8> {
-    let mut pool = vec![0; 152 + 4_112 * pages];
+    let mut pool = vec![0; support::length(pages)];
     reference::format(&mut pool).expect("a length that holds pages");
-    let mut state = 12_345_u64;
+    let mut rng = Rng::new(1);
     for _ in 0..pages * 40 {
-        state ^= state << 13;
-        state ^= state >> 7;
-        state ^= state << 17;
-        let size = 1 + (state >> 20) as u32 % (8 << (state % 10));
-        if reference::alloc(&mut pool, size).is_err() {
+        if reference::alloc(&mut pool, mixed_size(&mut rng)).is_err() {
             break;
         }
     }

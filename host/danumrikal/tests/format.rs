@@ -1,7 +1,5 @@
 //! Format against the second program: answer and every byte of the slice.
 
-mod support;
-
 use support::Rng;
 
 fn same(len: usize, seed: u64) {

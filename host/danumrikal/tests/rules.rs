@@ -1,8 +1,6 @@
 //! A broken example for each rule, and the number that it earns: the table of
 //! `docs/RULES.md`, which this test holds against what the pool answers.
 
-mod support;
-
 use support::Rng;
 
 const PAGES: usize = 8;

@@ -11,11 +11,7 @@ use reference::{alloc, format, free, run_script, shown, validate, Class, Refusal
 mod bits;
 
 use bits::{get, page_byte};
-
-/// Bytes of a slice that holds exactly this many pages.
-fn length(pages: usize) -> usize {
-    152 + 4_112 * pages
-}
+use support::length;
 
 /// A formatted pool over bytes that were not zero.
 fn pool(pages: usize) -> Vec<u8> {

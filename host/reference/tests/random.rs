@@ -2,8 +2,6 @@
 //! plain model says byte for byte, and the pool shows what the live set
 //! expects, which is fed by arguments and answers alone.
 
-use std::ops::Range;
-
 use reference::{
     alloc, alloc_sound, format, free, free_sound, live_blocks, shown, validate, Block, Call,
     LiveSet, View,
@@ -11,26 +9,15 @@ use reference::{
 
 #[path = "support/plain.rs"]
 mod plain;
-#[path = "support/rng.rs"]
-mod rng;
 
 use plain::Plain;
-use rng::Rng;
+use support::{callers_bytes, length, Habit, Rng};
 
 /// Where code runs slowly, fewer calls have to do.
 const SLOWNESS: u32 = if cfg!(debug_assertions) { 10 } else { 1 };
 
 /// Bytes of the map inside a page of each class.
 const MAP_BYTES: [usize; 9] = [64, 32, 16, 0, 0, 0, 0, 0, 0];
-
-/// What the calls of a trial tend to.
-#[derive(Clone, Copy)]
-struct Habit {
-    /// The size asked for in half of the takes.
-    favourite: u32,
-    /// Takes among sixteen calls.
-    takes: u64,
-}
 
 struct Trial {
     rng: Rng,
@@ -49,8 +36,7 @@ impl Trial {
     fn new(seed: u64, pages: usize) -> Trial {
         let mut rng = Rng::new(seed);
         let tail = rng.below(4_112) as usize;
-        let mut pool = vec![0; 152 + 4_112 * pages + tail];
-        rng.fill(&mut pool);
+        let mut pool = rng.bytes(length(pages) + tail);
         assert_eq!(format(&mut pool), Ok(pages as u32));
         let live = LiveSet::new(pages as u32);
         let view = live.expected();
@@ -73,38 +59,17 @@ impl Trial {
         152 + 16 * self.pages
     }
 
-    /// The bytes of a page that callers may write: all but a map in it.
-    fn callers_bytes(&self, page: usize) -> Range<usize> {
-        let map = self.view.classes[page].map_or(0, |class| MAP_BYTES[class.index()]);
-        let start = self.pages_at() + 4_096 * page;
-        start + map..start + 4_096
-    }
-
     /// Changes bytes that a caller may change between calls.
     fn scramble(&mut self) {
         // A few pages each time, so that large pools stay quick, and at times
         // all of them.
         for _ in 0..if self.rng.once_in(50) { self.pages } else { 2 } {
             let page = self.rng.below(self.pages as u64) as usize;
-            let bytes = self.callers_bytes(page);
+            let map = self.view.classes[page].map_or(0, |class| MAP_BYTES[class.index()]);
+            let bytes = callers_bytes(self.pages, page, map);
             self.rng.fill(&mut self.pool[bytes]);
         }
-        let tail = self.pages_at() + 4_096 * self.pages;
-        self.rng.fill(&mut self.pool[tail..]);
-    }
-
-    fn size(&mut self, habit: Habit) -> u32 {
-        match self.rng.below(8) {
-            0..=3 => habit.favourite,
-            4 | 5 => self.rng.below(2_049) as u32 >> self.rng.below(9),
-            6 => 2_049 + self.rng.below(4 * 4_096) as u32,
-            _ => match self.rng.below(4) {
-                0 => [0, 1, 2_048, 2_049, 4_096, 4_097][self.rng.below(6) as usize],
-                1 => self.rng.below(self.pages as u64 * 4_096 + 2) as u32,
-                2 => self.pages as u32 * 4_096 + self.rng.below(2) as u32,
-                _ => u32::MAX - self.rng.below(8_192) as u32,
-            },
-        }
+        self.rng.fill(&mut self.pool[length(self.pages)..]);
     }
 
     fn live_offset(&mut self) -> Option<u32> {
@@ -116,29 +81,17 @@ impl Trial {
     }
 
     fn offset(&mut self) -> u32 {
-        let end = self.pages as u32 * 4_096;
         let live = self.live_offset();
         match (self.rng.below(10), live) {
             (0..=6, Some(live)) => live,
-            (7, Some(live)) => match self.rng.below(4) {
-                0 => live + 1,
-                1 => live ^ 8 << self.rng.below(9),
-                2 => live & !4_095,
-                _ => live + 4_096,
-            },
-            (8, _) => self.last_freed,
-            _ => match self.rng.below(4) {
-                0 => end - self.rng.below(2) as u32,
-                1 => self.rng.next() as u32,
-                2 => self.rng.below(self.pages as u64) as u32 * 4_096,
-                _ => self.rng.below(end as u64) as u32,
-            },
+            (7, _) => self.last_freed,
+            _ => support::offset(&mut self.rng, self.pages, live),
         }
     }
 
     fn step(&mut self, habit: Habit) {
-        let call = if self.rng.below(16) < habit.takes {
-            Call::Alloc(self.size(habit))
+        let call = if self.rng.below(16) < habit.allocs {
+            Call::Alloc(habit.size(&mut self.rng, self.pages))
         } else {
             Call::Free(self.offset())
         };
@@ -214,16 +167,6 @@ impl Trial {
     }
 }
 
-fn habit(rng: &mut Rng) -> Habit {
-    let favourites = [
-        8, 16, 32, 64, 128, 256, 512, 1_024, 2_048, 4_096, 8_192, 12_288,
-    ];
-    Habit {
-        favourite: favourites[rng.below(12) as usize],
-        takes: 4 + rng.below(10),
-    }
-}
-
 #[test]
 fn every_page_count() {
     let mut granted = [0; 2];
@@ -231,7 +174,7 @@ fn every_page_count() {
     for pages in 1..=256 {
         let mut trial = Trial::new(pages as u64, pages);
         for _ in 0..3 {
-            let habit = habit(&mut trial.rng);
+            let habit = Habit::any(&mut trial.rng);
             for _ in 0..100 / SLOWNESS {
                 trial.step(habit);
             }
@@ -255,7 +198,7 @@ fn small_pools_fill_and_empty() {
         let pages = 1 + rng.below(12) as usize;
         let mut trial = Trial::new(seed, pages);
         for _ in 0..6 {
-            let habit = habit(&mut rng);
+            let habit = Habit::any(&mut rng);
             for _ in 0..400 / SLOWNESS {
                 trial.step(habit);
             }
@@ -277,11 +220,11 @@ fn one_class_fills_the_pool() {
         }
         assert!(trial.view.free_runs.is_empty());
         trial.scramble();
-        // Full pages return to their list in the order of the gives.
+        // Full pages return to their list in the order of the frees.
         for _ in 0..200 / SLOWNESS {
             trial.step(Habit {
                 favourite: size,
-                takes: 8,
+                allocs: 8,
             });
         }
         trial.empty();
@@ -294,7 +237,7 @@ fn a_large_pool_in_pieces() {
     for phase in 0..6 {
         let habit = Habit {
             favourite: [4_096, 64, 8_192, 2_048, 8, 4_096][phase],
-            takes: [15, 8, 6, 12, 12, 5][phase],
+            allocs: [15, 8, 6, 12, 12, 5][phase],
         };
         for _ in 0..1_500 / SLOWNESS {
             trial.step(habit);

@@ -8,14 +8,12 @@ use reference::{
 mod bits;
 #[path = "support/literal.rs"]
 mod literal;
-#[path = "support/rng.rs"]
-mod rng;
 
 use bits::{
     class_record, page_byte, page_record, set, CLASS, CLASS_FIRST, EDITION, FAILS, FIRST, FREE,
     KIND, MAP, MIN_SHIFT, NEXT, PAGES, PAGE_SHIFT, PREVIOUS, REQS, RUN, TOTAL, USED, ZEROS,
 };
-use rng::Rng;
+use support::Rng;
 
 const NONE: u64 = 65_535;
 
@@ -522,7 +520,7 @@ fn damage(rng: &mut Rng, bytes: &mut [u8]) {
         3 => old.wrapping_sub(1),
         4 => rng.below(pages as u64 + 2),
         5 => old ^ 1 << rng.below(width as u64),
-        _ => rng.next(),
+        _ => rng.word(),
     };
     set(bytes, record + above, width, number);
 }
@@ -582,8 +580,8 @@ fn unvalidated_calls_end_on_random_records() {
         for _ in 0..8 {
             let _ = alloc_sound(&mut bytes, rng.below(20_000) as u32);
             let _ = free_sound(&mut bytes, rng.below(pages * 512 + 2) as u32 * 8);
-            let _ = alloc_sound(&mut bytes, rng.next() as u32);
-            let _ = free_sound(&mut bytes, rng.next() as u32);
+            let _ = alloc_sound(&mut bytes, rng.word() as u32);
+            let _ = free_sound(&mut bytes, rng.word() as u32);
         }
     }
     for length in [0, 1, 8, 4_263, 1_056_936] {

@@ -6,11 +6,7 @@ use reference::{
     Refusal,
 };
 
-#[path = "support/rng.rs"]
-#[allow(dead_code)] // No pool is filled with random bytes here.
-mod rng;
-
-use rng::Rng;
+use support::Rng;
 
 fn chunk(number: u32) -> Block {
     Block::Chunk(Class::new(number).unwrap())

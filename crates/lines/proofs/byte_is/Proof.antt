@@ -1,0 +1,12 @@
+use borrow.Author.Needs.{needs}
+use Rattle.lines.proofs.byte_is.Statement.{statement}
+use Rattle.lines.proofs.byte_is.Tie as tie
+
+get-byte-requires : tie.Need-get-byte-requires
+get-byte-requires c κs = search needs
+
+returns : tie.Need-returns
+returns c = cc
+
+pub byte-is-spec : {M : Type 1} → statement M
+byte-is-spec = tie.close (tie.spec get-byte-requires returns)

@@ -1,0 +1,43 @@
+-- The lines that a script program prints for answers. Assumes nothing.
+use Prim.Native.Nat.{ℕ}
+use mathlib.Core.List.{List, [], _∷_}
+use lib.Dec.{eqb}
+use Rattle.base.specs.Tests.{pick}
+use Rattle.answers.specs.Outcome.{Outcome, numberOf}
+use Rattle.answers.specs.declared.Refusal.{Refusal}
+use Rattle.model.specs.Calls.{Call, Alloc, Free}
+use Rattle.printout.specs.Text.{line}
+
+-- `pool `, `at `, `no `
+abbrev pub poolWord : List ℕ
+poolWord = 112 ∷ 111 ∷ 111 ∷ 108 ∷ 32 ∷ []
+
+abbrev pub atWord : List ℕ
+atWord = 97 ∷ 116 ∷ 32 ∷ []
+
+abbrev pub noWord : List ℕ
+noWord = 110 ∷ 111 ∷ 32 ∷ []
+
+-- `back` and a newline
+abbrev pub backLine : List ℕ
+backLine = 98 ∷ 97 ∷ 99 ∷ 107 ∷ 10 ∷ []
+
+unfoldable pub refusalLine : Refusal → List ℕ
+refusalLine r = line noWord (numberOf r)
+
+-- a call's outcome, where granted says what a grant prints
+unfoldable pub outcomeLine : List ℕ → Outcome → List ℕ
+outcomeLine granted o = pick (eqb (o .number) 0) granted (line noWord (o .number))
+
+unfoldable pub formatLine : Outcome → List ℕ
+formatLine o = outcomeLine (line poolWord (o .value)) o
+
+unfoldable pub allocLine : Outcome → List ℕ
+allocLine o = outcomeLine (line atWord (o .value)) o
+
+unfoldable pub freeLine : Outcome → List ℕ
+freeLine o = outcomeLine backLine o
+
+unfoldable pub replyLine : Call → Outcome → List ℕ
+replyLine (Alloc n) o = allocLine o
+replyLine (Free off) o = freeLine o

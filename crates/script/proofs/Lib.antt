@@ -1,0 +1,5 @@
+pub mod Serving
+pub mod Room
+pub mod Alike
+pub mod Claims
+pub mod Example

@@ -1,0 +1,4 @@
+pub mod Script
+pub mod Served
+pub mod Claim
+pub mod Example

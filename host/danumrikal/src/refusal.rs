@@ -1,0 +1,80 @@
+use std::fmt;
+
+/// Why a call was refused. No other refusals exist.
+///
+/// ```
+/// use danumrikal::Refusal;
+///
+/// let refused = danumrikal::format(&mut [0; 4_263]).unwrap_err();
+/// assert_eq!(refused, Refusal::TooShort);
+/// assert_eq!(refused.to_string(), "too short (1)");
+/// ```
+#[derive(Clone, Copy, Debug, PartialEq, Eq, Hash)]
+pub enum Refusal {
+    /// Format: the slice is shorter than 4,264 bytes and holds no page.
+    TooShort = 1,
+    /// Format: the slice has 1,056,936 bytes or more and holds more than 256
+    /// pages.
+    TooLong = 2,
+    /// Alloc or free: the records break a rule.
+    NotSound = 3,
+    /// Alloc: no free chunk and no free page, or no run long enough.
+    NoRoom = 4,
+    /// Free: the offset lies past the pages.
+    Outside = 5,
+    /// Free: the page is free, or the chunk is: a block freed twice.
+    NotTaken = 6,
+    /// Free: no block can begin at the offset.
+    NotAStart = 7,
+}
+
+const ALL: [Refusal; 7] = [
+    Refusal::TooShort,
+    Refusal::TooLong,
+    Refusal::NotSound,
+    Refusal::NoRoom,
+    Refusal::Outside,
+    Refusal::NotTaken,
+    Refusal::NotAStart,
+];
+
+impl Refusal {
+    /// The refusal with this number, if there is one.
+    pub(crate) fn from_number(number: u8) -> Option<Refusal> {
+        ALL.into_iter().find(|refusal| refusal.number() == number)
+    }
+
+    /// The refusal's number in the table of refusals, 1 to 7.
+    ///
+    /// ```
+    /// assert_eq!(danumrikal::Refusal::NotTaken.number(), 6);
+    /// ```
+    pub fn number(self) -> u8 {
+        self as u8
+    }
+
+    /// The refusal's name in the table of refusals.
+    ///
+    /// ```
+    /// assert_eq!(danumrikal::Refusal::NotTaken.name(), "not taken");
+    /// ```
+    pub fn name(self) -> &'static str {
+        match self {
+            Refusal::TooShort => "too short",
+            Refusal::TooLong => "too long",
+            Refusal::NotSound => "not sound",
+            Refusal::NoRoom => "no room",
+            Refusal::Outside => "outside",
+            Refusal::NotTaken => "not taken",
+            Refusal::NotAStart => "not a start",
+        }
+    }
+}
+
+impl fmt::Display for Refusal {
+    fn fmt(&self, f: &mut fmt::Formatter<'_>) -> fmt::Result {
+        write!(f, "{} ({})", self.name(), self.number())
+    }
+}
+
+impl std::error::Error for Refusal {}

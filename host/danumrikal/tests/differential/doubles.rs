@@ -1,0 +1,198 @@
+//! Programs that are wrong on purpose, to see that each is caught and that what
+//! is printed is short. Each is the second program with one fault. Against the
+//! second program it differs; against itself only the live blocks tell.
+
+use reference::layout::{set_word, word, ClassRecord};
+use reference::{alloc_sound, free_sound, live_blocks, need, shown, Block, Class, Need};
+use support::length;
+
+use crate::case::{Case, Setting, Turn};
+use crate::player::{play_all, Found, Plan};
+use crate::program::{Program, SECOND};
+
+const BELIEVES_A_SECOND_FREE: Program = Program {
+    name: "believes a second free",
+    free: |pool, offset| match (SECOND.free)(pool, offset) {
+        Err(6) if class_at(pool, offset).is_some() => Ok(()),
+        answer => answer,
+    },
+    ..SECOND
+};
+
+/// The class of the page at an offset, where it is a class page.
+fn class_at(pool: &[u8], offset: u32) -> Option<Class> {
+    shown(pool)?.classes[offset as usize / 4_096]
+}
+
+const HANDS_OUT_TWICE: Program = Program {
+    name: "hands out a block twice",
+    alloc: |pool, size| {
+        let blocks = live_blocks(pool).unwrap_or_default();
+        match need(size) {
+            // The third chunk of a class is the first once more.
+            Need::Chunk(class) if used(pool, class) == 2 => {
+                let first = blocks.iter().find(|block| *block.1 == Block::Chunk(class));
+                first.map(|block| *block.0).ok_or(3)
+            }
+            _ => (SECOND.alloc)(pool, size),
+        }
+    },
+    ..SECOND
+};
+
+fn used(pool: &[u8], class: Class) -> u32 {
+    ClassRecord::read(pool, class).used
+}
+
+const OVERLOOKS_COUNTS: Program = Program {
+    name: "overlooks counts",
+    broken_rule: |pool| match (SECOND.broken_rule)(pool) {
+        6 => 0,
+        rule => rule,
+    },
+    alloc: |pool, size| match (OVERLOOKS_COUNTS.broken_rule)(pool) {
+        0 => alloc_sound(pool, size).map_err(|refusal| refusal.number()),
+        _ => Err(3),
+    },
+    free: |pool, offset| match (OVERLOOKS_COUNTS.broken_rule)(pool) {
+        0 => free_sound(pool, offset).map_err(|refusal| refusal.number()),
+        _ => Err(3),
+    },
+    ..SECOND
+};
+
+/// It overlooks its own counts, so only the live blocks can tell.
+const FORGETS_TO_COUNT_FREES: Program = Program {
+    name: "forgets to count frees",
+    free: |pool, offset| {
+        let before: Vec<u32> = Class::all().map(|class| used(pool, class)).collect();
+        let answer = (OVERLOOKS_COUNTS.free)(pool, offset);
+        for (class, used) in Class::all().zip(before) {
+            let record = ClassRecord::read(pool, class);
+            ClassRecord { used, ..record }.write(pool, class);
+        }
+        answer
+    },
+    ..OVERLOOKS_COUNTS
+};
+
+const LETS_THE_END_THROUGH: Program = Program {
+    name: "lets the end through",
+    free: |pool, offset| match (SECOND.free)(pool, offset) {
+        Err(5) if offset as usize == 4_096 * pages(pool) => Err(6),
+        answer => answer,
+    },
+    ..SECOND
+};
+
+fn pages(pool: &[u8]) -> usize {
+    (pool.len() - length(0)) / (length(1) - length(0))
+}
+
+const WIPES_WHAT_IS_FREED: Program = Program {
+    name: "wipes what is freed",
+    free: |pool, offset| {
+        let answer = (SECOND.free)(pool, offset);
+        if answer.is_ok() {
+            let block = danumrikal::block_range(pool, offset, 8).expect("a block's first bytes");
+            pool[block].fill(0);
+        }
+        answer
+    },
+    ..SECOND
+};
+
+const WIPES_THE_TAIL: Program = Program {
+    name: "wipes the tail",
+    format: |pool| {
+        let answer = (SECOND.format)(pool);
+        let pages = pages(pool);
+        pool[length(pages)..].fill(0);
+        answer
+    },
+    ..SECOND
+};
+
+const COUNTS_REFUSED_FREES: Program = Program {
+    name: "counts refused frees",
+    free: |pool, offset| {
+        let answer = (SECOND.free)(pool, offset);
+        if answer == Err(7) {
+            let fails = word(pool, 16).wrapping_add(1);
+            set_word(pool, 16, fails);
+        }
+        answer
+    },
+    ..SECOND
+};
+
+/// Finds the double out and answers what would be printed.
+fn found(double: Program, other: Program) -> Found {
+    let plans = (0..1_000).map(|seed| Plan {
+        damaging: seed % 2 == 1,
+        ..Plan::new(seed, 1 + seed as usize % 16, 300)
+    });
+    match play_all([double, other], plans) {
+        Err(found) => found,
+        Ok(_) => panic!("a program that {} was not found out", double.name),
+    }
+}
+
+#[test]
+fn every_double_is_caught_in_a_handful_of_calls() {
+    for (double, told) in [
+        (BELIEVES_A_SECOND_FREE, "freed, where the live blocks say"),
+        (HANDS_OUT_TWICE, "granted block overlaps the live block"),
+        (OVERLOOKS_COUNTS, "though the records are unsound"),
+        (FORGETS_TO_COUNT_FREES, "the pool shows other used than"),
+        (LETS_THE_END_THROUGH, "refused with 6, where the live"),
+        (WIPES_WHAT_IS_FREED, "bytes that no call writes changed"),
+        (WIPES_THE_TAIL, "bytes that no call writes changed"),
+        (COUNTS_REFUSED_FREES, "a refused call changed the pool"),
+    ] {
+        let different = found(double, SECOND);
+        let alone = found(double, double);
+        for found in [&different, &alone] {
+            println!("{found}\n");
+            assert!(found.lines.len() <= 4, "{found}");
+            assert!(found.case.setting.pages <= 2, "{found}");
+        }
+        let (_, outcome) = alone.lines.last().expect("some turn");
+        assert!(outcome.contains(told), "{alone}");
+    }
+}
+
+#[test]
+fn what_is_printed() {
+    let turns = [
+        Turn::Alloc(3_000),
+        Turn::Alloc(30),
+        Turn::Free(700),
+        Turn::Alloc(64),
+        Turn::Alloc(25),
+        Turn::Damage { at: 16, bits: 7 },
+        Turn::Alloc(5_000),
+        Turn::FreeOf(4),
+        Turn::FreeOf(0),
+        Turn::Damage { at: 16, bits: 7 },
+        Turn::Alloc(2_048),
+        Turn::FreeOf(4),
+    ];
+    let case = Case {
+        setting: Setting {
+            seed: 5,
+            pages: 12,
+            tail: 100,
+            scrambled: true,
+        },
+        turns: turns.into_iter().enumerate().collect(),
+    };
+    let found = Found::shrunk([BELIEVES_A_SECOND_FREE, SECOND], case);
+    let expected = "\
+pages 1, tail 0, seed 5, callers' bytes kept between calls
+    alloc 0: at 64
+    alloc 0: at 72
+    free 72: freed
+    free 72: believes a second free: freed; second: refused with 6";
+    assert_eq!(found.to_string(), expected);
+}

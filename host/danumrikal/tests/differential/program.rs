@@ -1,0 +1,25 @@
+/// A program that keeps pools. Refusals are told by their numbers.
+#[derive(Clone, Copy)]
+pub struct Program {
+    pub name: &'static str,
+    pub format: fn(&mut [u8]) -> Result<u32, u8>,
+    pub broken_rule: fn(&[u8]) -> u8,
+    pub alloc: fn(&mut [u8], u32) -> Result<u32, u8>,
+    pub free: fn(&mut [u8], u32) -> Result<(), u8>,
+}
+
+pub const PROVED: Program = Program {
+    name: "proved",
+    format: |pool| danumrikal::format(pool).map_err(|refusal| refusal.number()),
+    broken_rule: danumrikal::broken_rule,
+    alloc: |pool, size| danumrikal::alloc(pool, size).map_err(|refusal| refusal.number()),
+    free: |pool, offset| danumrikal::free(pool, offset).map_err(|refusal| refusal.number()),
+};
+
+pub const SECOND: Program = Program {
+    name: "second",
+    format: |pool| reference::format(pool).map_err(|refusal| refusal.number()),
+    broken_rule: reference::broken_rule,
+    alloc: |pool, size| reference::alloc(pool, size).map_err(|refusal| refusal.number()),
+    free: |pool, offset| reference::free(pool, offset).map_err(|refusal| refusal.number()),
+};
