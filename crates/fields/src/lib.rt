@@ -11,7 +11,7 @@ pub fn links_of(pool: &[u8], w: u8, p: usize) -> Links
     requires { ⌜ p ≤ 131072 ⌝ }
     ensures { λ r. ⌜ r ≡ fieldsOf w (now (pool .entry)) .image .links p ⌝ }
 {
-    records::unpack_links(words::get_word(pool, 2 + 9 * w as usize + 2 * p))
+    page_records::unpack_links(cells::get_word(pool, 2 + 9 * w as usize + 2 * p))
 }
 
 // The word that holds the links of page p.
@@ -19,7 +19,7 @@ pub fn links_word(pool: &[u8], w: u8, p: usize) -> u64
     requires { ⌜ p ≤ 131072 ⌝ }
     ensures { λ r. ⌜ r ≡ word (now (pool .entry)) (linksPlace w p) ⌝ }
 {
-    words::get_word(pool, 2 + 9 * w as usize + 2 * p)
+    cells::get_word(pool, 2 + 9 * w as usize + 2 * p)
 }
 
 pub fn kind_of(pool: &[u8], w: u8, p: usize) -> u8
@@ -34,14 +34,14 @@ pub fn map_of(pool: &[u8], w: u8, p: usize) -> u64
     requires { ⌜ p ≤ 131072 ⌝ }
     ensures { λ r. ⌜ r ≡ map (fieldsOf w (now (pool .entry))) p ⌝ }
 {
-    words::get_word(pool, 1 + 9 * w as usize + 2 * p)
+    cells::get_word(pool, 1 + 9 * w as usize + 2 * p)
 }
 
 pub fn spare_of(pool: &[u8], w: u8, p: usize) -> u64
     requires { ⌜ p ≤ 131072 ⌝ }
     ensures { λ r. ⌜ r ≡ fieldsOf w (now (pool .entry)) .spare p ⌝ }
 {
-    words::get_word(pool, 2 + 9 * w as usize + 2 * p) % 512
+    cells::get_word(pool, 2 + 9 * w as usize + 2 * p) % 512
 }
 
 // The word at which the map of page p of n begins, where the page is of class c.

@@ -75,7 +75,7 @@ fn fill(pool: &mut [u8], from: u16, step: u8, n: u16, v: u64)
 {
     let mut i = 0;
     while i < n {
-        words::put_word(pool, records::place(from, step, i), v);
+        cells::put_word(pool, records::place(from, step, i), v);
         i += 1;
     }
 }
@@ -83,8 +83,8 @@ fn fill(pool: &mut [u8], from: u16, step: u8, n: u16, v: u64)
 fn clear_classes(pool: &mut [u8], w: u8)
     ensures { λ _. ⌜ now (pool .exit) ≡ classesCleared w (now (pool .entry)) ⌝ }
 {
-    fill(pool, 1, w, 9, records::pack_counts(empty_class()));
-    fill(pool, 2, w, 9, records::pack_tally(empty_class()));
+    fill(pool, 1, w, 9, class_records::pack_counts(empty_class()));
+    fill(pool, 2, w, 9, class_records::pack_tally(empty_class()));
 }
 
 fn clear_pages(pool: &mut [u8], w: u8, pages: u16)
@@ -96,7 +96,7 @@ fn clear_pages(pool: &mut [u8], w: u8, pages: u16)
         2 + 9 * w as u16,
         2,
         pages,
-        records::pack_links(inside_free(PageNumber(65535))),
+        page_records::pack_links(inside_free(PageNumber(65535))),
     );
 }
 
@@ -105,8 +105,8 @@ fn link_run(pool: &mut [u8], w: u8, pages: u16)
     requires { ⌜ 1 ≤ pages ⌝ }
     ensures { λ _. ⌜ now (pool .exit) ≡ runLinked w pages (now (pool .entry)) ⌝ }
 {
-    records::put_links(pool, w, PageNumber(pages - 1), inside_free(PageNumber(0)));
-    records::put_links(pool, w, PageNumber(0), first_free(pages));
+    page_records::put_links(pool, w, PageNumber(pages - 1), inside_free(PageNumber(0)));
+    page_records::put_links(pool, w, PageNumber(0), first_free(pages));
 }
 
 // Header, class records and page records of a pool of one free run.
@@ -114,7 +114,7 @@ fn write_records(pool: &mut [u8], w: u8, pages: u16)
     requires { ⌜ (1 ≤ w) × (1 ≤ pages) ⌝ }
     ensures { λ _. ⌜ now (pool .exit) ≡ written w pages (now (pool .entry)) ⌝ }
 {
-    records::put_header(pool, fresh_header(w, pages));
+    headers::put_header(pool, fresh_header(w, pages));
     clear_classes(pool, w);
     clear_pages(pool, w, pages);
     link_run(pool, w, pages);

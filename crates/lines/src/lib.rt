@@ -34,7 +34,7 @@ pub fn line_end(input: &[u8], at: usize) -> usize
 fn byte_is(s: &[u8], at: usize, want: u8) -> bool
     ensures { λ r. ⌜ r ≡ eqb (getD (now (s .entry)) at 0) want ⌝ }
 {
-    words::get_byte(s, at) == want
+    cells::get_byte(s, at) == want
 }
 
 fn starts_with(line: &[u8], a: u8, b: u8, c: u8, d: u8) -> bool

@@ -11,7 +11,7 @@ pub fn free_list(pool: &[u8], w: u8, n: usize, t: &[u64; 11]) -> bool
     requires { ⌜ Scanned w (now pool) n (now t) ⌝ }
     ensures { λ r. ⌜ r ≡ rule3 (fieldsOf w (now (pool .entry))) n ⌝ }
 {
-    let h = records::get_header(pool);
+    let h = headers::get_header(pool);
     let heads = totals::middle(t, 9) as usize;
     walk::follow(pool, w, n, 9, heads, h.first_run.0 as usize)
 }
@@ -21,7 +21,7 @@ fn class_list(pool: &[u8], w: u8, n: usize, t: &[u64; 11], c: u8) -> bool
     requires { ⌜ Scanned w (now pool) n (now t) × (c < 9) ⌝ }
     ensures { λ r. ⌜ r ≡ classList (fieldsOf w (now (pool .entry))) n c ⌝ }
 {
-    let r = records::get_class(pool, w, c);
+    let r = class_records::get_class(pool, w, c);
     let open = totals::high(t, c as usize) as usize;
     walk::follow(pool, w, n, c, open, r.first.0 as usize)
 }

@@ -20,7 +20,7 @@ fn is_digit(b: u8) -> bool
 fn digit_at(s: &[u8], i: usize) -> bool
     ensures { λ r. ⌜ r ≡ isDigit (getD (now (s .entry)) i 0) ⌝ }
 {
-    is_digit(words::get_byte(s, i))
+    is_digit(cells::get_byte(s, i))
 }
 
 fn all_digits(s: &[u8]) -> bool
@@ -40,7 +40,7 @@ fn all_digits(s: &[u8]) -> bool
 fn zero_alone(s: &[u8]) -> bool
     ensures { λ r. ⌜ r ≡ pick (eqb (getD (now (s .entry)) 0 0) 48) (eqb (length (now (s .entry))) 1) true ⌝ }
 {
-    implies(words::get_byte(s, 0) == 48, s.len() == 1)
+    implies(cells::get_byte(s, 0) == 48, s.len() == 1)
 }
 
 fn cap(v: u64) -> u64
@@ -63,7 +63,7 @@ fn value(s: &[u8]) -> u64
     let mut v: u64 = 0;
     let mut i = 0;
     while i < s.len() {
-        v = shifted(v, words::get_byte(s, i));
+        v = shifted(v, cells::get_byte(s, i));
         i += 1;
     }
     v

@@ -15,7 +15,7 @@ ghost use Rattle.pool.specs.Calls.{answered, after};
 fn pages_in(len: usize) -> u16
     ensures { λ r. ⌜ r ≡ pageCount 2 len % 65536 ⌝ }
 {
-    (validate::page_count(2, len) % 65536) as u16
+    (length_rule::page_count(2, len) % 65536) as u16
 }
 
 // Takes a block of at least `size` bytes: its offset, or the refusal.
@@ -26,7 +26,7 @@ pub fn alloc(pool: &mut [u8], size: u32) -> Allocated
         return Allocated::Refused(Refusal::NotSound);
     }
     let pages = pages_in(pool.len());
-    allocating::alloc_sound(pool, 2, pages, size)
+    alloc_sound::alloc_sound(pool, 2, pages, size)
 }
 
 // Gives back the block that starts at the offset.
@@ -37,5 +37,5 @@ pub fn free(pool: &mut [u8], at: Offset) -> Freed
         return Freed::Refused(Refusal::NotSound);
     }
     let pages = pages_in(pool.len());
-    freeing::free_sound(pool, 2, pages, at)
+    free_sound::free_sound(pool, 2, pages, at)
 }

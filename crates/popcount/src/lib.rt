@@ -11,7 +11,7 @@ fn ones(pool: &[u8], k: usize) -> usize
     requires { ⌜ k < length (now pool) / 8 ⌝ }
     ensures { λ r. ⌜ (r ≡ count (mark (now (pool .entry)) (8 * k)) 64) × (r ≤ 64) ⌝ }
 {
-    u64::count_ones(words::get_word(pool, k)) as usize
+    u64::count_ones(cells::get_word(pool, k)) as usize
 }
 
 fn ones2(pool: &[u8], k: usize) -> usize

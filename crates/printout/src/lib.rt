@@ -11,7 +11,7 @@ pub fn put_text(out: &mut [u8], n: usize, text: &[u8]) -> usize
 {
     let mut i = 0;
     while i < text.len() {
-        words::put_byte(out, n + i, text[i]);
+        cells::put_byte(out, n + i, text[i]);
         i += 1;
     }
     n + i
@@ -85,7 +85,7 @@ fn put_decimal(out: &mut [u8], n: usize, v: u32) -> usize
     let mut k = places_of(v);
     while k > 0 {
         k -= 1;
-        words::put_byte(out, at, digit(v, k));
+        cells::put_byte(out, at, digit(v, k));
         at += 1;
     }
     at
@@ -106,6 +106,6 @@ pub fn put_line(out: &mut [u8], n: usize, word: &[u8], v: u32) -> usize
     ensures { λ r. ⌜ (r ≡ n + length (line (now (word .entry)) v)) × (now (out .exit) ≡ written (now (out .entry)) n (line (now (word .entry)) v)) × (r ≤ n + length (now (word .entry)) + 11) ⌝ }
 {
     let after = put_phrase(out, n, word, v);
-    words::put_byte(out, after, 10);
+    cells::put_byte(out, after, 10);
     after + 1
 }

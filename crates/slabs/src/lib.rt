@@ -24,7 +24,7 @@ fn own_marked(pool: &[u8], w: u8, n: usize, p: usize, c: u8) -> bool
     ensures { λ r. ⌜ r ≡ allBelow (markAt w (now (pool .entry)) p c) (own c) ⌝ }
 {
     let k = fields::map_at(w, n, p, c);
-    own_word(c) <= words::get_word(pool, k)
+    own_word(c) <= cells::get_word(pool, k)
 }
 
 // Whether the map field of a page of class c has no bit set that the class does not use.

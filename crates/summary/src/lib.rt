@@ -35,7 +35,7 @@ pub fn put_summary(pool: &[u8], w: u8, out: &mut [u8], n: usize) -> usize
     requires { ⌜ (pagesIn w (now pool) ≤ 65535) × (n ≤ 1000000) ⌝ }
     ensures { λ r. ⌜ Prints (now (out .entry)) (now (out .exit)) n r (summaryOf w (now (pool .entry))) ⌝ }
 {
-    let h = records::get_header(pool);
-    let runs = free_runs(pool, w, validate::page_count(w, pool.len()));
+    let h = headers::get_header(pool);
+    let runs = free_runs(pool, w, length_rule::page_count(w, pool.len()));
     put_counts(out, n, h.free_pages as u32, runs)
 }

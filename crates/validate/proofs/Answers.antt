@@ -2,28 +2,18 @@
 use mathlib.Core.Path.{_≡_, refl, sym, _∙_}
 use mathlib.Core.Bool.{Bool, true, false, not}
 use mathlib.Core.List.{List, [], _∷_}
-use Prim.Native.Nat.{ℕ, zero, suc, _*_, _≤_, _<_}
+use Prim.Native.Nat.{ℕ, zero, suc, _≤_}
 use native.Mathlib.Omega.{arith}
-use native.Mathlib.Nat.{mul-le-mul}
 use lib.ListN.{getD}
 use borrow.Author.Needs.{needs}
 use borrow.Author.Tests.{leb-true, not-true, not-false}
 use Rattle.base.specs.Tests.{pick, allOf}
 use Rattle.base.proofs.Tests.{both-true}
-use Rattle.model.specs.Classes.{chunks, maxPages}
+use Rattle.model.specs.Classes.{maxPages}
 use Rattle.model.proofs.Classes.{max-pages}
-use Rattle.tally.proofs.Shares.{chunks-512}
 use Rattle.tests.proofs.Loops.{passed}
 use Rattle.rules.specs.Bytes.{pagesIn, fieldsOf, rule1, brokenRule}
 use Rattle.validate.specs.Broken.{fromRule2, fromRule3}
-
--- the product that is compared with total
-pub total-fits : (x y c : ℕ) → x < 65536 → y ≡ chunks c → x * y < 18446744073709551616
-total-fits x y c h e =
-    let k : y ≤ 512 = rw e (chunks-512 c) in
-    let a : x ≤ 65536 = omega arith in
-    let z : x * y ≤ 65536 * 512 = mul-le-mul a k in
-    omega arith
 
 -- rule 1 bounds the page count
 pub few-pages : (w : ℕ) (s : List ℕ) (n : ℕ) (u : Bool) → n ≡ pagesIn w s → u ≡ rule1 w s → not u ≡ false → n ≤ 4096

@@ -1,9 +1,9 @@
-// Bytes and big-endian 64-bit words in a slice. Reads and writes are total: outside the slice a read gives 0 and a write does nothing.
+// Big-endian 64-bit words: the eight bytes from a place of a slice on, joined and taken apart.
 ghost use mathlib.Core.Path.{_≡_};
 ghost use Prim.Native.Nat.{_+_, _*_, _≤_, _<_};
-ghost use lib.ListN.{length, getD, set};
+ghost use lib.ListN.{length};
 ghost use Rattle.words.specs.Swap.{littleAt, swapPair, swapHalf, swapWord};
-ghost use Rattle.words.specs.Word.{wordAt, withPair, withHalf, withWord, word, setWord};
+ghost use Rattle.words.specs.Word.{wordAt, withPair, withHalf, withWord};
 
 // Words are composed at 64 bits, least significant byte first, and then turned over: the eight loads become one load, whichever
 // parts of the word are used, and the turn one byte swap.
@@ -52,7 +52,7 @@ fn swap64(v: u64) -> u64
     swap32(v % 4294967296) * 4294967296 + swap32(v / 4294967296)
 }
 
-fn get64(s: &[u8], at: usize) -> u64
+pub fn get64(s: &[u8], at: usize) -> u64
     requires { ⌜ at + 8 ≤ length (now s) ⌝ }
     ensures { λ r. ⌜ r ≡ wordAt (now (s .entry)) at ⌝ }
 {
@@ -75,42 +75,10 @@ fn put32(s: &mut [u8], at: usize, v: u32)
     put16(s, at + 2, (v % 65536) as u16);
 }
 
-fn put64(s: &mut [u8], at: usize, v: u64)
+pub fn put64(s: &mut [u8], at: usize, v: u64)
     requires { ⌜ at + 8 ≤ length (now s) ⌝ }
     ensures { λ _. ⌜ now (s .exit) ≡ withWord (now (s .entry)) at v ⌝ }
 {
     put32(s, at, (v / 4294967296) as u32);
     put32(s, at + 4, (v % 4294967296) as u32);
-}
-
-// Word k of s, which holds bytes 8k to 8k + 7; 0 past the last whole word.
-pub fn get_word(s: &[u8], k: usize) -> u64
-    ensures { λ r. ⌜ r ≡ word (now (s .entry)) k ⌝ }
-{
-    if k < s.len() / 8 { get64(s, 8 * k) } else { 0 }
-}
-
-// Sets word k of s; past the last whole word it does nothing.
-pub fn put_word(s: &mut [u8], k: usize, v: u64)
-    ensures { λ _. ⌜ now (s .exit) ≡ setWord (now (s .entry)) k v ⌝ }
-{
-    if k < s.len() / 8 {
-        put64(s, 8 * k, v);
-    }
-}
-
-// The byte at a place; 0 outside.
-pub fn get_byte(s: &[u8], at: usize) -> u8
-    ensures { λ r. ⌜ r ≡ getD (now (s .entry)) at 0 ⌝ }
-{
-    if at < s.len() { s[at] } else { 0 }
-}
-
-// Sets the byte at a place; outside it does nothing.
-pub fn put_byte(s: &mut [u8], at: usize, v: u8)
-    ensures { λ _. ⌜ now (s .exit) ≡ set (now (s .entry)) at v ⌝ }
-{
-    if at < s.len() {
-        s[at] = v;
-    }
 }

@@ -6,7 +6,7 @@ chunk-count-requires : tie.Need-chunk-count-requires
 chunk-count-requires c κs = search needs
 
 returns : tie.Need-returns
-returns c = cc
+returns c = rw (c .chunk-count .ensures)
 
 pub is-full-spec : {M : Type 1} → statement M
 is-full-spec = tie.close (tie.spec chunk-count-requires returns)

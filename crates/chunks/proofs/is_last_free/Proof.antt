@@ -12,7 +12,7 @@ cast-result : tie.Need-cast-result
 cast-result c = search needs
 
 returns : tie.Need-returns
-returns c = cc
+returns c = rw (c .chunk-count .ensures)
 
 pub is-last-free-spec : {M : Type 1} → statement M
 is-last-free-spec = tie.close (tie.spec add-result chunk-count-requires cast-result returns)

@@ -9,7 +9,7 @@ add-result : tie.Need-add-result
 add-result c = search needs
 
 returns : tie.Need-returns
-returns c = cc
+returns c = rw (c .own-count .ensures .0)
 
 pub is-last-taken-spec : {M : Type 1} → statement M
 is-last-taken-spec = tie.close (tie.spec own-count-requires add-result returns)

@@ -26,7 +26,7 @@ same-length c = search needs
 
 returns : tie.Need-returns
 unfolding classesCleared
-returns c = cc
+returns c = rw (c .before .before .before .pack-tally .ensures, c .before .before .before .before .empty-class2 .ensures, c .before .before .before .before .before .before .before .before .fill .ensures, c .before .before .before .before .before .before .before .before .before .pack-counts .ensures, c .before .before .before .before .before .before .before .before .before .before .empty-class .ensures) at (c .before .before .fill2 .ensures)
 
 pub clear-classes-spec : {M : Type 1} → statement M
 clear-classes-spec =

@@ -32,7 +32,7 @@ same-length c = search needs
 
 returns : tie.Need-returns
 unfolding pagesCleared
-returns c = cc
+returns c = rw (c .before .before .before .pack-links .ensures, c .before .before .before .before .inside-free .ensures, c .before .before .before .before .before .before .before .before .fill .ensures) at (c .before .before .fill2 .ensures)
 
 pub clear-pages-spec : {M : Type 1} → statement M
 clear-pages-spec =

@@ -23,7 +23,7 @@ same-length c = search needs
 
 returns : tie.Need-returns
 unfolding runLinked
-returns c = cc
+returns c = rw (c .before .before .before .first-free .ensures, c .before .before .before .before .before .before .before .put-links .ensures, c .before .before .before .before .before .before .before .before .inside-free .ensures) at (c .before .before .put-links2 .ensures)
 
 pub link-run-spec : {M : Type 1} → statement M
 link-run-spec =

@@ -23,7 +23,7 @@ same-length c = search needs
 
 returns : tie.Need-returns
 unfolding written
-returns c = cc
+returns c = rw (c .before .before .before .before .before .before .clear-pages .ensures, c .before .before .before .before .before .before .before .before .before .before .clear-classes .ensures, c .before .before .before .before .before .before .before .before .before .before .before .before .before .before .put-header .ensures, c .before .before .before .before .before .before .before .before .before .before .before .before .before .before .before .fresh-header .ensures) at (c .before .before .link-run .ensures)
 
 pub write-records-spec : {M : Type 1} → statement M
 write-records-spec =

@@ -20,7 +20,7 @@ element-write-t c = search needs
 
 returns : tie.Need-returns
 unfolding addAt
-returns c = cc
+returns c = rw (c .wrapping-add-u64 .ensures)
 
 pub add-spec : {M : Type 1} → statement M
 add-spec =

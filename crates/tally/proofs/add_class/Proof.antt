@@ -23,7 +23,7 @@ add-requires-2 c κs = search needs
 
 returns : tie.Need-returns
 unfolding classAdded
-returns c = cc
+returns c = rw (c .before .class-fault .ensures, c .before .before .before .add .ensures, c .before .before .before .before .class-weight .ensures, c .before .before .before .before .before .before .ones-of .ensures .0) at (c .add2 .ensures)
 
 pub add-class-spec : {M : Type 1} → statement M
 add-class-spec =

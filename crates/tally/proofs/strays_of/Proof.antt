@@ -14,7 +14,7 @@ both-requires-2 c κs = search needs
 
 returns : tie.Need-returns
 unfolding strays
-returns c = cc
+returns c = rw (c .before .chunks-of .ensures, c .before .before .both .ensures) at (c .both2 .ensures)
 
 pub strays-of-spec : {M : Type 1} → statement M
 strays-of-spec = tie.close (tie.spec both-requires chunks-of-requires both-requires-2 returns)

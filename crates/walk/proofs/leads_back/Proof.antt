@@ -9,7 +9,7 @@ cast-result : tie.Need-cast-result
 cast-result c = search needs
 
 returns : tie.Need-returns
-returns c = cc
+returns c = rw (c .before .links-of .ensures)
 
 pub leads-back-spec : {M : Type 1} → statement M
 leads-back-spec = tie.close (tie.spec links-of-requires cast-result returns)

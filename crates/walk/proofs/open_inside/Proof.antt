@@ -15,7 +15,7 @@ all3-requires : tie.Need-all3-requires
 all3-requires c κs = search needs
 
 returns : tie.Need-returns
-returns c = cc
+returns c = rw (c .before .before .before .chunks-of .ensures, c .before .before .before .before .ones-of .ensures .0, c .before .before .before .before .before .links-of .ensures) at (c .all3 .ensures)
 
 pub open-inside-spec : {M : Type 1} → statement M
 open-inside-spec =

@@ -23,7 +23,7 @@ same-length c = search needs
 
 returns : tie.Need-returns
 unfolding withHalf
-returns c = cc
+returns c = rw (c .before .before .before .before .before .before .put16 .ensures) at (c .before .before .put162 .ensures)
 
 pub put32-spec : {M : Type 1} → statement M
 put32-spec =

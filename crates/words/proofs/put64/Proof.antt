@@ -23,7 +23,7 @@ same-length c = search needs
 
 returns : tie.Need-returns
 unfolding withWord
-returns c = cc
+returns c = rw (c .before .before .before .before .before .before .put32 .ensures) at (c .before .before .put322 .ensures)
 
 pub put64-spec : {M : Type 1} → statement M
 put64-spec =

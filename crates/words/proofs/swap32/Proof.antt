@@ -18,7 +18,7 @@ add-result c = search needs
 
 returns : tie.Need-returns
 unfolding swapHalf
-returns c = (cc, omega arith)
+returns c = (rw (c .swap162 .ensures .0, c .before .swap16 .ensures .0), omega arith)
 
 pub swap32-spec : {M : Type 1} → statement M
 swap32-spec = tie.close (tie.spec swap16-requires mul-result swap16-requires-2 add-result returns)

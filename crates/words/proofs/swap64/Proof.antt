@@ -17,7 +17,7 @@ add-result c = search needs
 
 returns : tie.Need-returns
 unfolding swapWord
-returns c = cc
+returns c = rw (c .swap322 .ensures .0, c .before .swap32 .ensures .0)
 
 pub swap64-spec : {M : Type 1} → statement M
 swap64-spec = tie.close (tie.spec swap32-requires mul-result swap32-requires-2 add-result returns)

@@ -1,0 +1,18 @@
+use borrow.Author.Needs.{needs}
+use Rattle.alloc_sound.proofs.alloc_small.Statement.{statement}
+use Rattle.alloc_sound.proofs.alloc_small.Tie as tie
+
+class-for-requires : tie.Need-class-for-requires
+class-for-requires c κs = search needs
+
+alloc-chunk-requires : tie.Need-alloc-chunk-requires
+alloc-chunk-requires c κs = search needs
+
+same-length : tie.Need-same-length
+same-length c = search needs
+
+returns : tie.Need-returns
+returns c = (cc, cc)
+
+pub alloc-small-spec : {M : Type 1} → statement M
+alloc-small-spec = tie.close (tie.spec class-for-requires alloc-chunk-requires same-length returns)

@@ -1,0 +1,36 @@
+use Rattle.allocating.specs.Allocating.{allocOutcome, allocSlice}
+use Rattle.base.proofs.Tests.{picks}
+use borrow.Author.Needs.{needs}
+use Rattle.alloc_sound.proofs.alloc_sound.Statement.{statement}
+use Rattle.alloc_sound.proofs.alloc_sound.Tie as tie
+
+alloc-small-requires : tie.Need-alloc-small-requires
+alloc-small-requires c κs = search needs
+
+alloc-large-requires : tie.Need-alloc-large-requires
+alloc-large-requires c κs = search needs
+
+same-length : tie.Need-same-length
+same-length c = search needs
+
+returns : tie.Need-returns
+unfolding allocOutcome allocSlice
+returns c = (search picks, search picks)
+
+same-length-2 : tie.Need-same-length-2
+same-length-2 c = search needs
+
+returns-2 : tie.Need-returns-2
+unfolding allocOutcome allocSlice
+returns-2 c = (search picks, search picks)
+
+pub alloc-sound-spec : {M : Type 1} → statement M
+alloc-sound-spec =
+    tie.close
+    (tie.spec
+    alloc-small-requires
+    alloc-large-requires
+    same-length
+    returns
+    same-length-2
+    returns-2)

@@ -1,0 +1,47 @@
+// An answer as one word, for C and other languages.
+use allocating::Allocated;
+use format::Formatted;
+use freeing::Freed;
+ghost use mathlib.Core.Path.{_≡_};
+ghost use Prim.Native.Nat.{_*_};
+ghost use Rattle.format.specs.Format as formats;
+ghost use Rattle.allocating.specs.Allocating as allocs;
+ghost use Rattle.freeing.specs.Freeing as frees;
+ghost use Rattle.answer_words.specs.Word.{wordOf};
+
+// The refusal's number in the top byte.
+fn refusal_word(n: u8) -> u64
+    ensures { λ r. ⌜ r ≡ n * 72057594037927936 ⌝ }
+{
+    n as u64 * 72057594037927936
+}
+
+pub fn formatted_word(f: Formatted) -> u64
+    ensures { λ r. ⌜ r ≡ wordOf (formats.outcomeOf f) ⌝ }
+{
+    match f {
+        Formatted::Pages(n) => n as u64,
+        Formatted::Refused(r) => refusal_word(answers::number(r)),
+    }
+}
+
+pub fn allocated_word(a: Allocated) -> u64
+    ensures { λ r. ⌜ r ≡ wordOf (allocs.outcomeOf a) ⌝ }
+{
+    match a {
+        Allocated::At(o) => {
+            let x = o.0;
+            x as u64
+        }
+        Allocated::Refused(r) => refusal_word(answers::number(r)),
+    }
+}
+
+pub fn freed_word(f: Freed) -> u64
+    ensures { λ r. ⌜ r ≡ wordOf (frees.outcomeOf f) ⌝ }
+{
+    match f {
+        Freed::Done => 0,
+        Freed::Refused(r) => refusal_word(answers::number(r)),
+    }
+}

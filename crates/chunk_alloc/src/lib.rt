@@ -1,0 +1,61 @@
+// Chunks handed out, of a page on a class list or of a new page.
+// `w` is the number of words of a class record, `pages` the pages of the pool.
+use records::PageNumber;
+ghost use mathlib.Core.Path.{_≡_};
+ghost use Rattle.bitmaps.specs.Bitmap.{lowestClear};
+ghost use Rattle.model.specs.Classes.{chunks};
+ghost use Rattle.rules.specs.Bytes.{mapBase};
+ghost use Rattle.chunks.specs.Chunks.{chunkTaken, newMapAt, pageCut};
+
+// The lowest free chunk of page p, or the number of its chunks where there is none.
+fn free_chunk_of(pool: &[u8], w: u8, pages: u16, c: u8, p: PageNumber) -> u16
+    ensures { λ r. ⌜ r ≡ lowestClear (now (pool .entry)) (mapBase w pages (p .0) c) (chunks c) ⌝ }
+{
+    lowest::lowest_clear(
+        pool,
+        page_maps::map_base(w, pages, p, c),
+        classes::chunk_count(c),
+    )
+}
+
+// Chunk i of page p, the first on the list of class c, is handed out.
+fn take_chunk(pool: &mut [u8], w: u8, pages: u16, c: u8, p: PageNumber, i: u16)
+    ensures { λ _. ⌜ now (pool .exit) ≡ chunkTaken w (now (pool .entry)) pages c (p .0) i ⌝ }
+{
+    let n = page_maps::marks_set(pool, w, pages, p, c);
+    class_lists::leave_if_full(pool, w, c, p, n);
+    marks::set_mark(pool, page_maps::map_base(w, pages, p, c), i);
+    counting::count_used(pool, w, c);
+}
+
+// Hands out the lowest free chunk of page p, the first on the list of class c, and answers its number.
+pub fn alloc_chunk(pool: &mut [u8], w: u8, pages: u16, c: u8, p: PageNumber) -> u16
+    ensures { λ r. ⌜ (r ≡ lowestClear (now (pool .entry)) (mapBase w pages (p .0) c) (chunks c))
+        × (now (pool .exit) ≡ chunkTaken w (now (pool .entry)) pages c (p .0) r) ⌝ }
+{
+    let i = free_chunk_of(pool, w, pages, c, p);
+    take_chunk(pool, w, pages, c, p, i);
+    i
+}
+
+// Writes the whole map of page p, which is new: the map's own chunks and the first after them are taken.
+fn open_map(pool: &mut [u8], w: u8, pages: u16, c: u8, p: PageNumber)
+    ensures { λ _. ⌜ now (pool .exit) ≡ newMapAt w (now (pool .entry)) pages c (p .0) ⌝ }
+{
+    new_maps::write_map_at(
+        pool,
+        page_maps::map_base(w, pages, p, c),
+        classes::map_bytes(c),
+        classes::own_count(c) + 1,
+    );
+}
+
+// The first page of the free run that starts in page p becomes the only page on the list of class c, and its first chunk is handed out.
+pub fn cut_page(pool: &mut [u8], w: u8, pages: u16, c: u8, p: PageNumber)
+    ensures { λ _. ⌜ now (pool .exit) ≡ pageCut w (now (pool .entry)) pages c (p .0) ⌝ }
+{
+    run_alloc::take_page(pool, w, p);
+    class_lists::enlist(pool, w, c, p);
+    open_map(pool, w, pages, c, p);
+    counting::count_page_used(pool, w, c);
+}

@@ -1,0 +1,45 @@
+// The pages on the class lists: those with a free chunk.
+// `w` is the number of words of a class record.
+use records::PageNumber;
+ghost use mathlib.Core.Path.{_≡_};
+ghost use Rattle.chunks.specs.Chunks.{delisted, setAside, enlisted, fullLeaves, fullReturns};
+
+// Page p leaves the list of class c.
+pub fn delist(pool: &mut [u8], w: u8, c: u8, p: PageNumber)
+    ensures { λ _. ⌜ now (pool .exit) ≡ delisted w (now (pool .entry)) c (p .0) ⌝ }
+{
+    let l = page_records::get_links(pool, w, p);
+    relinking::unlink(pool, w, chunks::list_of(c), l);
+}
+
+// And stays a class page.
+fn set_aside(pool: &mut [u8], w: u8, c: u8, p: PageNumber)
+    ensures { λ _. ⌜ now (pool .exit) ≡ setAside w (now (pool .entry)) c (p .0) ⌝ }
+{
+    delist(pool, w, c, p);
+    page_records::put_links(pool, w, p, chunks::class_links(c));
+}
+
+pub fn enlist(pool: &mut [u8], w: u8, c: u8, p: PageNumber)
+    ensures { λ _. ⌜ now (pool .exit) ≡ enlisted w (now (pool .entry)) c (p .0) ⌝ }
+{
+    relinking::push_front(pool, w, chunks::list_of(c), p, chunks::class_links(c));
+}
+
+// Page p, with n marks set, is to have one more: if that makes it full it leaves the list.
+pub fn leave_if_full(pool: &mut [u8], w: u8, c: u8, p: PageNumber, n: u16)
+    ensures { λ _. ⌜ now (pool .exit) ≡ fullLeaves w (now (pool .entry)) c (p .0) n ⌝ }
+{
+    if chunks::is_last_free(c, n) {
+        set_aside(pool, w, c, p);
+    }
+}
+
+// Page p, with n marks set, is to have one fewer: if it was full it returns to the head of the list.
+pub fn return_if_full(pool: &mut [u8], w: u8, c: u8, p: PageNumber, n: u16)
+    ensures { λ _. ⌜ now (pool .exit) ≡ fullReturns w (now (pool .entry)) c (p .0) n ⌝ }
+{
+    if chunks::is_full(c, n) {
+        enlist(pool, w, c, p);
+    }
+}

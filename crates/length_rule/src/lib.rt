@@ -1,0 +1,29 @@
+// Rule 1: the page count that a length gives, and the header.
+ghost use mathlib.Core.Path.{_≡_};
+ghost use Rattle.records.specs.Layout.{pageCount};
+ghost use Rattle.rules.specs.Bytes.{pagesIn, rule1};
+
+// The page count that a length gives.
+pub fn page_count(w: u8, len: usize) -> usize
+    ensures { λ r. ⌜ r ≡ pageCount w len ⌝ }
+{
+    tests::minus(len, 8 + 72 * w as usize) / 4112
+}
+
+pub fn header_fits(pool: &[u8], w: u8, n: usize) -> bool
+    requires { ⌜ n ≡ pagesIn w (now pool) ⌝ }
+    ensures { λ r. ⌜ r ≡ rule1 w (now (pool .entry)) ⌝ }
+{
+    let h = headers::get_header(pool);
+    let edition = tests::minus(w as usize, 1);
+    let least = 8 + 72 * w as usize + 4112;
+    let len = pool.len();
+    tests::all6(
+        least <= len,
+        n <= 256,
+        h.edition as usize == edition,
+        h.min_shift == 3,
+        h.page_shift == 12,
+        h.pages as usize == n,
+    )
+}

@@ -1,0 +1,63 @@
+// Pages taken from the front of a free run.
+use records::Links;
+use records::PageNumber;
+ghost use mathlib.Core.Path.{_≡_};
+ghost use Rattle.extents.specs.Extents.{fewerFree, restKept, frontCut, frontOff, frontPage, runTaken};
+
+fn take_free(pool: &mut [u8], k: u16)
+    ensures { λ _. ⌜ now (pool .exit) ≡ fewerFree (now (pool .entry)) k ⌝ }
+{
+    let h = headers::get_header(pool);
+    headers::put_header(pool, extents::free_to(h, extents::less(h.free_pages, k)));
+}
+
+// What is left of the run that starts in page p after its front k pages takes its place.
+fn keep_rest(pool: &mut [u8], w: u8, p: PageNumber, k: u16, l: Links)
+    ensures { λ _. ⌜ now (pool .exit) ≡ restKept w (now (pool .entry)) (p .0) k l ⌝ }
+{
+    let t = extents::after(p, k);
+    let n = extents::less(l.run, k);
+    relinking::replace(
+        pool,
+        w,
+        0,
+        l,
+        t,
+        extents::plain_links(1, n, PageNumber(65535)),
+    );
+    run_records::put_back(pool, w, t, n);
+}
+
+fn cut_front(pool: &mut [u8], w: u8, p: PageNumber, k: u16, l: Links)
+    ensures { λ _. ⌜ now (pool .exit) ≡ frontCut w (now (pool .entry)) (p .0) k l ⌝ }
+{
+    if k < l.run {
+        keep_rest(pool, w, p, k, l);
+    } else {
+        relinking::unlink(pool, w, 0, l);
+    }
+}
+
+fn take_front(pool: &mut [u8], w: u8, p: PageNumber, k: u16)
+    ensures { λ _. ⌜ now (pool .exit) ≡ frontOff w (now (pool .entry)) (p .0) k ⌝ }
+{
+    let l = page_records::get_links(pool, w, p);
+    take_free(pool, k);
+    cut_front(pool, w, p, k, l);
+}
+
+// The first page of the free run that starts in page p leaves it; the caller writes its record.
+pub fn take_page(pool: &mut [u8], w: u8, p: PageNumber)
+    ensures { λ _. ⌜ now (pool .exit) ≡ frontPage w (now (pool .entry)) (p .0) ⌝ }
+{
+    take_front(pool, w, p, 1);
+}
+
+// The front k pages of the free run that starts in page p become a taken run.
+pub fn take_run(pool: &mut [u8], w: u8, p: PageNumber, k: u16)
+    ensures { λ _. ⌜ now (pool .exit) ≡ runTaken w (now (pool .entry)) (p .0) k ⌝ }
+{
+    take_front(pool, w, p, k);
+    run_records::fill(pool, w, p, k, extents::plain_links(4, 0, PageNumber(65535)));
+    page_records::put_links(pool, w, p, extents::plain_links(3, k, PageNumber(65535)));
+}
