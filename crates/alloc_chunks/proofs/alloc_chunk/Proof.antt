@@ -17,7 +17,7 @@ same-length c = search needs
 
 returns : tie.Need-returns
 unfolding classOutcome classSlice
-returns c = (cc, cc)
+returns c = (rw (c .before .before .before .before .first .ensures) at (c .before .before .chunk-from .ensures .0), rw (c .before .before .before .before .first .ensures) at (c .before .before .chunk-from .ensures .1))
 
 pub alloc-chunk-spec : {M : Type 1} → statement M
 alloc-chunk-spec =

@@ -20,7 +20,7 @@ same-length c = search needs
 
 returns : tie.Need-returns
 unfolding firstOutcome
-returns c = (cc, cc)
+returns c = (rw (c .offset-in .ensures, c .before .chunk-start .ensures .0, c .before .before .own-count .ensures .0), c .before .before .before .before .before .cut-page .ensures)
 
 pub cut-page-spec : {M : Type 1} → statement M
 cut-page-spec =

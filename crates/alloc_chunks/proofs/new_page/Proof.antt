@@ -14,7 +14,7 @@ same-length c = search needs
 
 returns : tie.Need-returns
 unfolding newOutcome newSlice
-returns c = (cc, cc)
+returns c = (rw (c .before .before .before .before .first-fit .ensures) at (c .before .before .cut-or-refuse .ensures .0), rw (c .before .before .before .before .first-fit .ensures) at (c .before .before .cut-or-refuse .ensures .1))
 
 pub new-page-spec : {M : Type 1} → statement M
 new-page-spec = tie.close (tie.spec first-fit-requires cut-or-refuse-requires same-length returns)

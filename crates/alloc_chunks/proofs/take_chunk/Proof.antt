@@ -17,7 +17,7 @@ same-length c = search needs
 
 returns : tie.Need-returns
 unfolding lowestOn chunkOutcome chunkSlice
-returns c = (cc, cc)
+returns c = (rw (c .offset-in .ensures, c .before .chunk-start .ensures .0, c .before .before .before .before .alloc-chunk .ensures .0), rw (c .before .before .before .before .alloc-chunk .ensures .0) at (c .before .before .before .before .alloc-chunk .ensures .1))
 
 pub take-chunk-spec : {M : Type 1} → statement M
 take-chunk-spec =

@@ -14,7 +14,7 @@ same-length c = search needs
 
 returns : tie.Need-returns
 unfolding pagesOutcome pagesSlice
-returns c = (cc, cc)
+returns c = (rw (c .before .before .before .before .first-fit .ensures) at (c .before .before .run-from .ensures .0), rw (c .before .before .before .before .first-fit .ensures) at (c .before .before .run-from .ensures .1))
 
 pub alloc-run-spec : {M : Type 1} → statement M
 alloc-run-spec = tie.close (tie.spec first-fit-requires run-from-requires same-length returns)

@@ -12,7 +12,7 @@ same-length : tie.Need-same-length
 same-length c = search needs
 
 returns : tie.Need-returns
-returns c = (cc, cc)
+returns c = (rw (c .before .before .before .before .pages-for .ensures) at (c .before .before .alloc-run .ensures .0), rw (c .before .before .before .before .pages-for .ensures) at (c .before .before .alloc-run .ensures .1))
 
 pub alloc-large-spec : {M : Type 1} → statement M
 alloc-large-spec = tie.close (tie.spec pages-for-requires alloc-run-requires same-length returns)

@@ -12,7 +12,7 @@ same-length : tie.Need-same-length
 same-length c = search needs
 
 returns : tie.Need-returns
-returns c = (cc, cc)
+returns c = (rw (c .before .before .before .before .class-for .ensures .0) at (c .before .before .alloc-chunk .ensures .0), rw (c .before .before .before .before .class-for .ensures .0) at (c .before .before .alloc-chunk .ensures .1))
 
 pub alloc-small-spec : {M : Type 1} → statement M
 alloc-small-spec = tie.close (tie.spec class-for-requires alloc-chunk-requires same-length returns)

@@ -14,7 +14,7 @@ same-length c = search needs
 
 returns : tie.Need-returns
 unfolding offsetOutcome offsetSlice
-returns c = (cc, cc)
+returns c = (rw (c .before .before .before .before .chunk-size .ensures .0) at (c .before .before .free-sized .ensures .0), rw (c .before .before .before .before .chunk-size .ensures .0) at (c .before .before .free-sized .ensures .1))
 
 pub free-offset-spec : {M : Type 1} → statement M
 free-offset-spec = tie.close (tie.spec chunk-size-requires free-sized-requires same-length returns)

@@ -14,7 +14,7 @@ same-length c = search needs
 
 returns : tie.Need-returns
 unfolding startOutcome startSlice
-returns c = (cc, cc)
+returns c = (rw (c .before .before .before .before .own-count .ensures .0) at (c .before .before .free-past .ensures .0), rw (c .before .before .before .before .own-count .ensures .0) at (c .before .before .free-past .ensures .1))
 
 pub free-start-spec : {M : Type 1} → statement M
 free-start-spec = tie.close (tie.spec own-count-requires free-past-requires same-length returns)

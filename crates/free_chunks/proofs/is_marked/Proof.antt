@@ -11,7 +11,7 @@ get-mark-requires c κs = search needs
 
 returns : tie.Need-returns
 unfolding marked
-returns c = cc
+returns c = rw (c .before .map-base .ensures) at (c .get-mark .ensures)
 
 pub is-marked-spec : {M : Type 1} → statement M
 is-marked-spec = tie.close (tie.spec map-base-requires get-mark-requires returns)

@@ -14,7 +14,7 @@ same-length c = search needs
 
 returns : tie.Need-returns
 unfolding pageOutcome pageSlice
-returns c = (cc, cc)
+returns c = (rw (c .before .before .before .before .get-links .ensures) at (c .before .before .free-kind .ensures .0), rw (c .before .before .before .before .get-links .ensures) at (c .before .before .free-kind .ensures .1))
 
 pub free-page-spec : {M : Type 1} → statement M
 free-page-spec = tie.close (tie.spec get-links-requires free-kind-requires same-length returns)

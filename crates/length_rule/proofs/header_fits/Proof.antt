@@ -29,7 +29,7 @@ all6-requires c κs = search needs
 
 returns : tie.Need-returns
 unfolding rule1
-returns c = cc
+returns c = rw (c .before .before .before .before .before .minus .ensures, c .before .before .before .before .before .before .get-header .ensures, c .before .before .before .before .before .before .before .before .pre) at (c .all6 .ensures)
 
 pub header-fits-spec : {M : Type 1} → statement M
 header-fits-spec =
