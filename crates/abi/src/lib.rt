@@ -5,7 +5,7 @@ ghost use lib.ListN.{length};
 ghost use Rattle.format.specs.Format as formats;
 ghost use Rattle.model.specs.Calls.{Alloc, Free};
 ghost use Rattle.rules.specs.Bytes.{brokenRule};
-ghost use Rattle.pool.specs.Calls.{answered, after};
+ghost use Rattle.demands.specs.Calls.{answered, after};
 ghost use Rattle.answer_words.specs.Word.{wordOf};
 
 // Makes a pool of a slice: the page count, or the refusal.

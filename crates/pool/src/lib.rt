@@ -9,7 +9,7 @@ ghost use Rattle.records.specs.Layout.{pageCount};
 ghost use Rattle.model.specs.Calls.{Alloc, Free};
 ghost use Rattle.allocating.specs.Allocating as allocs;
 ghost use Rattle.freeing.specs.Freeing as frees;
-ghost use Rattle.pool.specs.Calls.{answered, after};
+ghost use Rattle.demands.specs.Calls.{answered, after};
 
 // The page count of a slice of edition 1; no sound pool has more than 16 bits tell.
 fn pages_in(len: usize) -> u16

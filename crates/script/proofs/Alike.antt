@@ -17,8 +17,8 @@ use Rattle.rules.specs.Rules.{freeIn}
 use Rattle.rules.specs.Bytes.{pagesIn, imageOf, fieldsOf, brokenRule, read}
 use Rattle.rules.proofs.Rules.{rule6-says}
 use Rattle.drawing.proofs.Laws.{none-broken, claims as laws-of}
-use Rattle.pool.specs.Demands.{Demands}
-use Rattle.pool.proofs.Demands.{all-demands}
+use Rattle.demands.specs.Demands.{Demands}
+use Rattle.demands.proofs.Demands.{all-demands}
 use Rattle.lines.specs.Lines.{lines, request}
 use Rattle.printout.specs.Text.{line, written}
 use Rattle.replies.specs.Replies.{poolWord, outcomeLine, formatLine, replyLine}

@@ -13,7 +13,7 @@ use Rattle.answers.specs.Outcome.{Outcome}
 use Rattle.answers.specs.declared.Refusal.the-variants.{Unreadable}
 use Rattle.model.specs.State.{State}
 use Rattle.model.specs.Calls.{Call, Alloc, Free, step}
-use Rattle.pool.specs.Calls.{outcome, answered}
+use Rattle.demands.specs.Calls.{outcome, answered}
 use Rattle.lines.specs.Lines.{before, lines, begins, request}
 use Rattle.lines.proofs.Words.{begins-long}
 use Rattle.printout.specs.Text.{digits, places, decimal, phrase, line}

@@ -8,7 +8,7 @@ use lib.ListN.{length, length-append}
 use Rattle.answers.specs.Outcome.{Outcome}
 use Rattle.answers.specs.declared.Refusal.the-variants.{Unreadable}
 use Rattle.model.specs.Calls.{Call, Alloc, Free}
-use Rattle.pool.specs.Calls.{answered, after}
+use Rattle.demands.specs.Calls.{answered, after}
 use Rattle.format.specs.Format.{formatOutcome, formatted}
 use Rattle.lines.specs.Lines.{lines, request}
 use Rattle.printout.specs.Text.{written, Prints}

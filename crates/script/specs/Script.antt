@@ -9,7 +9,7 @@ use Rattle.answers.specs.declared.Refusal.the-variants.{Unreadable, ScriptTooLo
 use Rattle.model.specs.State.{State}
 use Rattle.model.specs.Calls.{Call, fresh, step}
 use Rattle.rules.specs.Rules.{freeIn}
-use Rattle.pool.specs.Calls.{outcome}
+use Rattle.demands.specs.Calls.{outcome}
 use Rattle.lines.specs.Lines.{lines, request}
 use Rattle.printout.specs.Text.{line}
 use Rattle.replies.specs.Replies.{poolWord, refusalLine, replyLine}

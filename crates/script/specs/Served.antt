@@ -7,7 +7,7 @@ use lib.ListN.{length}
 use Rattle.answers.specs.declared.Refusal.the-variants.{Unreadable}
 use Rattle.model.specs.Calls.{Call}
 use Rattle.format.specs.Format.{formatOutcome, formatted}
-use Rattle.pool.specs.Calls.{answered, after}
+use Rattle.demands.specs.Calls.{answered, after}
 use Rattle.lines.specs.Lines.{lines, request}
 use Rattle.printout.specs.Text.{written}
 use Rattle.replies.specs.Replies.{refusalLine, formatLine, replyLine}

@@ -22,8 +22,8 @@ use Rattle.format.specs.Format.{shortest, tooLong, formatted}
 use Rattle.rules.specs.Bytes.{pagesIn, brokenRule, read}
 use Rattle.drawing.specs.Draw.{inMap, draw}
 use Rattle.drawing.specs.Noise.{SameRecords}
-use Rattle.pool.specs.Calls.{outcome, answered, after}
-use Rattle.pool.specs.Shown.{shownBy}
+use Rattle.demands.specs.Calls.{outcome, answered, after}
+use Rattle.demands.specs.Shown.{shownBy}
 
 -- the number that a verdict has in an answer: 0 where the call is granted
 abbrev pub numberIn : Verdict → ℕ

@@ -23,7 +23,7 @@ use Rattle.rules.specs.Rules.{countsFit, rule6}
 use Rattle.rules.specs.Drawn.{freeLinks, pageLinks, stateImage, stateFields}
 use Rattle.rules.specs.Agree.{Agree, Holds}
 use Rattle.rules.proofs.Runs.{started}
-use Rattle.pool.specs.Shown.{fieldView}
+use Rattle.demands.specs.Shown.{fieldView}
 use Rattle.base.proofs.Tests.{both-true}
 
 -- no page of a well-formed state is of a class past 8

@@ -24,7 +24,7 @@ use Rattle.freeruns.specs.OnImage.{startOr}
 use Rattle.sizes.proofs.Laws.{class-is}
 use Rattle.allocating.specs.Allocating.{lowestOn, chunkOutcome, chunkSlice, firstOutcome, cutOutcome, cutSlice, newOutcome, newSlice, fromOutcome, fromSlice, classOutcome, classSlice, runOutcome, runSlice, pagesOutcome, pagesSlice, allocOutcome, allocSlice}
 use Rattle.drawing.specs.Draw.{draw}
-use Rattle.pool.specs.Calls.{outcome}
+use Rattle.demands.specs.Calls.{outcome}
 
 -- what reading and each operation do on the bytes s, which show the state m of P pages
 pub record AllocFacts (w : ℕ) (s : List ℕ) (P : ℕ) (m : State) : Type 0 where

@@ -24,8 +24,8 @@ use Rattle.coalesce.specs.Release.{pagesReleased}
 use Rattle.chunks.specs.Chunks.{chunkFreed}
 use Rattle.freeing.specs.Freeing.{marked, markOutcome, markSlice, pastOutcome, pastSlice, startOutcome, startSlice, sizedOutcome, sizedSlice, offsetOutcome, offsetSlice, chunkOutcome, chunkSlice, runOutcome, runSlice, kindOutcome, kindSlice, pageOutcome, pageSlice, freeOutcome, freeSlice}
 use Rattle.drawing.specs.Draw.{draw}
-use Rattle.pool.specs.Calls.{clearedAt}
-use Rattle.pool.proofs.Allocs.{Does}
+use Rattle.demands.specs.Calls.{clearedAt}
+use Rattle.demands.proofs.Allocs.{Does}
 
 -- what reading and each operation do on the bytes s, which show the state m
 pub record FreeFacts (w : ℕ) (s : List ℕ) (m : State) : Type 0 where

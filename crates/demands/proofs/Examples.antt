@@ -20,9 +20,9 @@ use Rattle.format.specs.Format.{formatted}
 use Rattle.rules.specs.Read.{tallyOf, readFields}
 use Rattle.rules.specs.Bytes.{pagesIn, imageOf, fieldsOf, brokenRule, read}
 use Rattle.drawing.proofs.Laws.{claims as laws-of}
-use Rattle.pool.specs.Calls.{outcome, after}
-use Rattle.pool.specs.Examples.{answersOn, sliceAfter, want, outcomes, tally, runs, seen, asSeen, Accepted, ExamplesOnBytes}
-use Rattle.pool.proofs.Calls.{sound-answer, after-sound, after-read, demand1}
+use Rattle.demands.specs.Calls.{outcome, after}
+use Rattle.demands.specs.Examples.{answersOn, sliceAfter, want, outcomes, tally, runs, seen, asSeen, Accepted, ExamplesOnBytes}
+use Rattle.demands.proofs.Calls.{sound-answer, after-sound, after-read, demand1}
 
 -- ---- a list of calls on sound bytes
 

@@ -12,7 +12,7 @@ use Rattle.model.specs.Calls.{Call}
 use Rattle.model.specs.Examples.{Question, sized, replies, tallyAfter, runsAfter, Fact, aChunk, somePages, answers, counts, freeRuns, Example, needed, examples}
 use Rattle.format.specs.Format.{shortest, tooLong, formatted}
 use Rattle.rules.specs.Bytes.{pagesIn, read}
-use Rattle.pool.specs.Calls.{outcome, answered, after}
+use Rattle.demands.specs.Calls.{outcome, answered, after}
 
 -- the answers to a list of calls, and the slice after them
 abbrev pub answersOn : ℕ → List ℕ → List Call → List Outcome

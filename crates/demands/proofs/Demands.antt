@@ -24,10 +24,10 @@ use Rattle.format.specs.Format.{formatted}
 use Rattle.rules.specs.Bytes.{pagesIn, brokenRule, read}
 use Rattle.drawing.specs.Noise.{SameRecords}
 use Rattle.drawing.proofs.Laws.{claims as laws-of}
-use Rattle.pool.specs.Calls.{outcome, answered, after}
-use Rattle.pool.specs.Shown.{shownBy}
-use Rattle.pool.specs.Demands.{numberIn, liveIn, Turn, fed, Allowed, played, book, Apart, Faithful, Demand3, Corollaries, Claims}
-use Rattle.pool.proofs.Calls.{no-zero, verdict-number, view-is, sound-answer, after-sound, after-read, demand1, demand2}
+use Rattle.demands.specs.Calls.{outcome, answered, after}
+use Rattle.demands.specs.Shown.{shownBy}
+use Rattle.demands.specs.Demands.{numberIn, liveIn, Turn, fed, Allowed, played, book, Apart, Faithful, Demand3, Corollaries, Claims}
+use Rattle.demands.proofs.Calls.{no-zero, verdict-number, view-is, sound-answer, after-sound, after-read, demand1, demand2}
 
 -- ---- the live set, fed by outcomes
 

@@ -35,10 +35,10 @@ use Rattle.drawing.specs.Draw.{mapHas, inMap, draw}
 use Rattle.drawing.specs.Claim.{Fitting, Laws}
 use Rattle.drawing.proofs.Encoding.{fields-bounds}
 use Rattle.drawing.proofs.Laws.{none-broken, claims as laws-of}
-use Rattle.pool.specs.Calls.{outcome, answered, clearedAt, cleared, after}
-use Rattle.pool.specs.Shown.{shownBy}
-use Rattle.pool.specs.Demands.{numberIn, liveIn, Demand1, Demand2}
-use Rattle.pool.proofs.Shown.{view-shown}
+use Rattle.demands.specs.Calls.{outcome, answered, clearedAt, cleared, after}
+use Rattle.demands.specs.Shown.{shownBy}
+use Rattle.demands.specs.Demands.{numberIn, liveIn, Demand1, Demand2}
+use Rattle.demands.proofs.Shown.{view-shown}
 
 -- ---- answers
 

@@ -34,11 +34,11 @@ use Rattle.chunklaws.proofs.Laws.{claims as chunk-laws}
 use Rattle.freeruns.proofs.Drawn.{run-taken, run-released}
 use Rattle.allocating.specs.Allocating.{allocOutcome, allocSlice}
 use Rattle.freeing.specs.Freeing.{marked, freeOutcome, freeSlice}
-use Rattle.pool.specs.Calls.{answered, cleared, after}
-use Rattle.pool.proofs.Calls.{sound-answer, drawn-after}
-use Rattle.pool.proofs.Allocs.{AllocFacts, alloc-does}
-use Rattle.pool.proofs.Frees.{FreeFacts, free-does}
-use Rattle.pool.proofs.Facts.{fitting, same, few, first-page, links-are, fit-is, past, ends, listed-page, run-found, marks-are, lowest-is, listed-slab}
+use Rattle.demands.specs.Calls.{answered, cleared, after}
+use Rattle.demands.proofs.Calls.{sound-answer, drawn-after}
+use Rattle.demands.proofs.Allocs.{AllocFacts, alloc-does}
+use Rattle.demands.proofs.Frees.{FreeFacts, free-does}
+use Rattle.demands.proofs.Facts.{fitting, same, few, first-page, links-are, fit-is, past, ends, listed-page, run-found, marks-are, lowest-is, listed-slab}
 
 module _ (w : ℕ) (wide : 2 ≤ w) (narrow : w ≤ 255) (s : List ℕ) (B : Bytes s) (sound : brokenRule w s ≡ 0) where
   abbrev m : State
