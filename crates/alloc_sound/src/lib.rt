@@ -9,14 +9,14 @@ fn alloc_small(pool: &mut [u8], w: u8, pages: u16, size: u32) -> Allocated
     ensures { λ r. ⌜ (outcomeOf r ≡ classOutcome w (now (pool .entry)) pages (classFor size)) × (now (pool .exit) ≡ classSlice w (now (pool .entry)) pages (classFor size)) ⌝ }
 {
     let c = sizes::class_for(size);
-    alloc_chunks::alloc_chunk(pool, w, pages, c)
+    alloc_from_class::alloc_chunk(pool, w, pages, c)
 }
 
 fn alloc_large(pool: &mut [u8], w: u8, pages: u16, size: u32) -> Allocated
     ensures { λ r. ⌜ (outcomeOf r ≡ pagesOutcome w (now (pool .entry)) pages (pagesFor size)) × (now (pool .exit) ≡ pagesSlice w (now (pool .entry)) pages (pagesFor size)) ⌝ }
 {
     let k = sizes::pages_for(size);
-    alloc_runs::alloc_run(pool, w, pages, k)
+    alloc_from_runs::alloc_run(pool, w, pages, k)
 }
 
 // Document 01's take, on sound records.

@@ -1,30 +1,26 @@
 -- Alloc on the bytes of a sound pool does what the model does, given what each operation does. Assumes nothing.
-use mathlib.Core.Path.{_≡_, refl, sym, ap, _∙_}
+use mathlib.Core.Path.{_≡_, refl, sym}
 use mathlib.Core.Logic.{_⊎_, inl, inr, _≢_}
-use mathlib.Core.Bool.{Bool, true, false, cond}
 use mathlib.Core.Option.{Option, none, some}
 use mathlib.Core.List.{List, [], _∷_}
-use Prim.Native.Nat.{ℕ, suc, _+_, _-_, _*_, _/_, _%_, _≤_, _<_}
+use Prim.Native.Nat.{ℕ, _+_, _-_, _%_, _≤_, _<_}
 use native.Mathlib.Omega.{arith}
-use lib.Dec.{eqb, leb}
-use borrow.Author.Tests.{eq-eqb, ne-eqb, le-leb, lt-leb}
+use borrow.Author.Tests.{ne-eqb, le-leb, lt-leb}
 use Rattle.base.specs.Tests.{pick}
 use Rattle.base.specs.Links.{headOr}
 use Rattle.base.proofs.Cases.{lt?}
 use Rattle.records.specs.Layout.{noPage}
-use Rattle.answers.specs.Outcome.{Outcome, granted, refused}
-use Rattle.answers.specs.declared.Refusal.the-variants.{NoRoom}
-use Rattle.model.specs.Classes.{chunk, own, lowest, classOf, pagesFor, Need, chunkOf, pages, needOf}
+use Rattle.answers.specs.Outcome.{Outcome}
+use Rattle.model.specs.Classes.{chunk, lowest, classOf, pagesFor, chunkOf, pages, needOf}
 use Rattle.model.specs.State.{Run, State, marksOf}
 use Rattle.model.specs.Runs.{fit}
-use Rattle.model.specs.Calls.{Answer, at, no, Reply, noRoom, refuse, tallied, allocRun, cutPage, markChunk, allocChunk, allocFor, alloc}
+use Rattle.model.specs.Calls.{Reply, noRoom, refuse, tallied, allocRun, cutPage, markChunk, allocChunk, allocFor, alloc}
 use Rattle.model.proofs.Classes.{class-ok}
 use Rattle.lists.specs.Links.{firstOf}
 use Rattle.extents.specs.Extents.{fitIn, runTaken}
 use Rattle.classes.specs.Classes.{chunkRefused}
 use Rattle.chunks.specs.Chunks.{chunkTaken, pageCut}
 use Rattle.freeruns.specs.OnImage.{startOr}
-use Rattle.sizes.specs.Sizes.{classFor}
 use Rattle.sizes.proofs.Laws.{class-is}
 use Rattle.allocating.specs.Allocating.{lowestOn, chunkOutcome, chunkSlice, firstOutcome, cutOutcome, cutSlice, newOutcome, newSlice, fromOutcome, fromSlice, classOutcome, classSlice, runOutcome, runSlice, pagesOutcome, pagesSlice, allocOutcome, allocSlice}
 use Rattle.drawing.specs.Draw.{draw}

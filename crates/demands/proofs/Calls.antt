@@ -3,13 +3,13 @@ use mathlib.Core.Path.{_≡_, refl, sym, ap, _∙_, subst}
 use mathlib.Core.Logic.{_⊎_, inl, inr, _≢_, _↔_}
 use mathlib.Core.Bool.{Bool, true, false, cond, _||_}
 use mathlib.Core.List.{List}
-use Prim.Native.Nat.{ℕ, zero, suc, _+_, _-_, _*_, _/_, _%_, _≤_, _<_}
+use Prim.Native.Nat.{ℕ, _+_, _-_, _*_, _/_, _%_, _≤_, _<_}
 use native.Mathlib.Omega.{arith}
-use lib.Dec.{eqb, ltb}
+use lib.Dec.{eqb}
 use lib.ListN.{length, getD}
-use borrow.Author.Tests.{eq-eqb, ne-eqb, lt-ltb, le-ltb, ltb-true}
+use borrow.Author.Tests.{eq-eqb, ne-eqb, lt-ltb, le-ltb}
 use Rattle.base.specs.Tests.{pick}
-use Rattle.base.proofs.Cases.{clash, bool?, eq?, lt?, never}
+use Rattle.base.proofs.Cases.{clash, eq?, lt?, never}
 use Rattle.base.proofs.AllBelow.{pick-yes, pick-no}
 use Rattle.words.specs.Word.{Bytes}
 use Rattle.records.specs.Layout.{mapPlace, pagesFrom, pageCount}
@@ -21,17 +21,15 @@ use Rattle.base.specs.Functions.{upd}
 use Rattle.model.specs.Classes.{chunk, chunks, own, hasTaken, startsChunk, Need, chunkOf, pages, needOf}
 use Rattle.model.specs.State.{Page, idle, slab, taken, inside, edge, State}
 use Rattle.model.specs.WellFormed.{ClassOk, WellFormed}
-use Rattle.model.specs.Calls.{Call, Alloc, Free, Answer, at, freed, no, Reply, noRoom, outside, notTaken, notAStart, refuse, tallied, freeChunk, freeAt, free, step}
+use Rattle.model.specs.Calls.{Call, Alloc, Free, Answer, at, freed, no, noRoom, outside, notTaken, notAStart, refuse, tallied, freeChunk, freeAt, free, step}
 use Rattle.model.specs.Live.{Block, offset, extent, Off, Live}
-use Rattle.model.specs.Effects.{Effect, AllocEffect, FreeEffect, Strikes}
+use Rattle.model.specs.Effects.{Effect, FreeEffect}
 use Rattle.model.specs.View.{View, Kind, vacant, class, runOf, within, shown}
 use Rattle.model.specs.Ruling.{Verdict, granted, refused as denied, verdict, clearIn, pageIn, runIn, allocRuling, freeRuling, pastEnd, ruling}
-use Rattle.model.specs.Claim.{Kept, Untouched, BlocksPlaced}
 use Rattle.model.proofs.Claim.{claims}
 use Rattle.model.proofs.Classes.{bitmap-in-page, own-some, small-chunks, large-chunks}
-use Rattle.rules.specs.Bytes.{pagesIn, mapBase, fieldsOf, brokenRule, read}
+use Rattle.rules.specs.Bytes.{pagesIn, mapBase, brokenRule, read}
 use Rattle.rules.specs.Read.{readFields}
-use Rattle.rules.specs.Agree.{Holds}
 use Rattle.rules.proofs.Drawn.{fields-drawn}
 use Rattle.drawing.specs.Draw.{mapHas, inMap, draw}
 use Rattle.drawing.specs.Claim.{Fitting, Laws}

@@ -1,36 +1,32 @@
 -- Demand 3 on the bytes of a pool, and the three demands together. Assumes nothing.
 use mathlib.Core.Path.{_≡_, refl, sym, ap, _∙_, subst}
-use mathlib.Core.Logic.{_⊎_, inl, inr, _≢_, _↔_}
-use mathlib.Core.Bool.{Bool, true, false}
+use mathlib.Core.Logic.{_≢_, _↔_}
 use mathlib.Core.List.{List, [], _∷_}
-use Prim.Native.Nat.{ℕ, _≤_, _<_}
-use native.Mathlib.Omega.{arith}
+use Prim.Native.Nat.{ℕ, _≤_}
 use lib.ListN.{length}
-use borrow.Author.Tests.{eq-eqb, ne-eqb}
+use borrow.Author.Tests.{ne-eqb}
 use Rattle.base.specs.Tests.{pick}
-use Rattle.base.specs.Lists.{Mem, NoDup, keep}
 use Rattle.words.specs.Word.{Bytes}
 use Rattle.records.specs.Layout.{pageCount}
 use Rattle.answers.specs.Outcome.{Outcome, granted}
-use Rattle.model.specs.Classes.{Need, needOf}
-use Rattle.model.specs.State.{Page, State}
+use Rattle.model.specs.Classes.{needOf}
+use Rattle.model.specs.State.{State}
 use Rattle.model.specs.WellFormed.{WellFormed}
 use Rattle.model.specs.Calls.{Call, Alloc, Free, Answer, at, freed, no, fresh, step}
-use Rattle.model.specs.Live.{Block, offset, Disjoint, Live, blockFor, elsewhere, noted, NoOverlap, LiveSet, World, next, runFrom}
+use Rattle.model.specs.Live.{Block, offset, noted, NoOverlap, LiveSet, World, next, runFrom}
 use Rattle.model.specs.Effects.{Effect, AllocEffect, FreeEffect, without}
 use Rattle.model.specs.Expected.{expected}
 use Rattle.model.specs.View.{shown}
-use Rattle.model.specs.Ruling.{ruling, verdict}
+use Rattle.model.specs.Ruling.{ruling}
 use Rattle.model.specs.Claim.{Faithful as Followed}
 use Rattle.model.proofs.Claim.{claims}
-use Rattle.format.specs.Format.{shortest, tooLong, formatted}
+use Rattle.format.specs.Format.{formatted}
 use Rattle.rules.specs.Bytes.{pagesIn, brokenRule, read}
-use Rattle.drawing.specs.Claim.{Fitting, Laws}
 use Rattle.drawing.specs.Noise.{SameRecords}
 use Rattle.drawing.proofs.Laws.{claims as laws-of}
 use Rattle.demands.specs.Calls.{outcome, answered, after}
 use Rattle.demands.specs.Shown.{shownBy}
-use Rattle.demands.specs.Demands.{numberIn, liveIn, Turn, fed, Allowed, played, book, Apart, Faithful, Demand3, Corollaries, Demands, Claims}
+use Rattle.demands.specs.Demands.{numberIn, liveIn, Turn, fed, Allowed, played, book, Apart, Faithful, Demand3, Corollaries, Claims}
 use Rattle.demands.proofs.Calls.{no-zero, verdict-number, view-is, sound-answer, after-sound, after-read, demand1, demand2}
 
 -- ---- the live set, fed by outcomes

@@ -1,30 +1,27 @@
 -- The starred examples on bytes, by the demands and the model's examples. Assumes nothing.
 use mathlib.Core.Path.{_≡_, refl, sym, ap, _∙_}
-use mathlib.Core.Bool.{Bool, true, false, _&&_}
+use mathlib.Core.Bool.{Bool, true, _&&_}
 use mathlib.Core.List.{List, [], _∷_, map}
-use Prim.Native.Nat.{ℕ, _+_, _≤_, _<_}
+use Prim.Native.Nat.{ℕ, _≤_, _<_}
 use native.Mathlib.Omega.{arith}
 use lib.Dec.{leb, ltb}
-use lib.ListN.{length}
 use borrow.Author.Tests.{leb-true, ltb-true, lt-ltb}
 use Rattle.base.specs.Tests.{pick}
 use Rattle.base.proofs.Cases.{and-true}
 use Rattle.words.specs.Word.{Bytes}
 use Rattle.records.specs.Class.{classAt}
-use Rattle.records.specs.declared.ClassRecord.{ClassRecord}
-use Rattle.answers.specs.Outcome.{Outcome}
 use Rattle.model.specs.Classes.{Need, chunkOf, pages, needOf}
-use Rattle.model.specs.State.{State, Tally}
+use Rattle.model.specs.State.{State}
 use Rattle.model.specs.Calls.{Call, fresh, step}
 use Rattle.model.specs.Live.{World, next, runFrom, begin}
-use Rattle.model.specs.Examples.{Question, sized, replies, tallyAfter, runsAfter, Fact, aChunk, somePages, answers, counts, freeRuns, Example, needed, replied, computed, fullPage, outerFreed, wholeCase, examples}
+use Rattle.model.specs.Examples.{Question, sized, replies, tallyAfter, runsAfter, Fact, Example, needed, replied, computed, examples}
 use Rattle.model.proofs.Claim.{claims}
-use Rattle.format.specs.Format.{shortest, tooLong, formatted}
+use Rattle.format.specs.Format.{formatted}
 use Rattle.rules.specs.Read.{tallyOf, readFields}
 use Rattle.rules.specs.Bytes.{pagesIn, imageOf, fieldsOf, brokenRule, read}
 use Rattle.drawing.proofs.Laws.{claims as laws-of}
-use Rattle.demands.specs.Calls.{outcome, answered, after}
-use Rattle.demands.specs.Examples.{answersOn, sliceAfter, Seen, want, outcomes, tally, runs, seen, asSeen, Accepted, ExamplesOnBytes}
+use Rattle.demands.specs.Calls.{outcome, after}
+use Rattle.demands.specs.Examples.{answersOn, sliceAfter, want, outcomes, tally, runs, seen, asSeen, Accepted, ExamplesOnBytes}
 use Rattle.demands.proofs.Calls.{sound-answer, after-sound, after-read, demand1}
 
 -- ---- a list of calls on sound bytes

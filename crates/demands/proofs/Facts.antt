@@ -2,33 +2,28 @@
 use mathlib.Core.Path.{_≡_, refl, sym, ap, _∙_, subst}
 use mathlib.Core.Logic.{_⊎_, inl, inr, _≢_}
 use mathlib.Core.Bool.{Bool, true, false, not}
-use mathlib.Core.Option.{Option, none, some}
-use mathlib.Core.List.{List, [], _∷_}
-use Prim.Native.Nat.{ℕ, suc, _+_, _-_, _*_, _/_, _≤_, _<_}
-use native.Mathlib.Nat.{div-lt-iff-lt-mul}
+use mathlib.Core.Option.{some}
+use mathlib.Core.List.{List, _∷_}
+use Prim.Native.Nat.{ℕ, _+_, _-_, _*_, _/_, _≤_, _<_}
 use native.Mathlib.Omega.{arith}
-use lib.Dec.{eqb, ltb}
 use lib.ListN.{length}
 use borrow.Author.Tests.{lt-ltb, ne-eqb}
 use Rattle.base.specs.Tests.{pick}
 use Rattle.base.specs.Search.{least}
-use Rattle.base.specs.Lists.{Mem}
 use Rattle.base.specs.Links.{headOr}
 use Rattle.base.proofs.Cases.{clash, lt?, never}
-use Rattle.base.proofs.Search.{Least, least-spec, least-is}
+use Rattle.base.proofs.Search.{least-spec, least-is}
 use Rattle.words.specs.Word.{Bytes}
-use Rattle.records.specs.Layout.{noPage, pageCount}
+use Rattle.records.specs.Layout.{noPage}
 use Rattle.records.specs.declared.Links.{Links}
 use Rattle.records.specs.Page.{linksAt}
 use Rattle.bitmaps.specs.Bitmap.{mark, lowestClear}
-use Rattle.model.specs.Classes.{chunk, chunks, lowest}
+use Rattle.model.specs.Classes.{chunks, lowest}
 use Rattle.model.specs.State.{Page, slab, edge, Run, State, isIdle, marksOf}
 use Rattle.model.specs.WellFormed.{WellFormed}
 use Rattle.model.specs.Runs.{fit}
 use Rattle.model.proofs.Runs.{fit-found}
-use Rattle.model.proofs.Classes.{chunks-fill, chunk-pos}
 use Rattle.model.proofs.Lists.{open-is}
-use Rattle.image.specs.Image.{Image, paint}
 use Rattle.image.proofs.Paint.{links-shown}
 use Rattle.lists.specs.Links.{firstOf}
 use Rattle.lists.specs.Nodes.{firstIn}
@@ -37,16 +32,15 @@ use Rattle.rules.specs.Drawn.{stateImage, stateFields, pageLinks}
 use Rattle.rules.specs.Bytes.{pagesIn, mapBase, markAt, fieldsOf, imageOf, brokenRule, read}
 use Rattle.rules.proofs.Fits.{state-fits}
 use Rattle.drawing.specs.Draw.{mapped, draw}
-use Rattle.drawing.specs.Claim.{Fitting, Laws}
+use Rattle.drawing.specs.Claim.{Fitting}
 use Rattle.drawing.proofs.Mapped.{length-mapped}
 use Rattle.drawing.proofs.Drawn.{drawn-shows}
 use Rattle.drawing.proofs.Laws.{claims as laws-of}
-use Rattle.shows.proofs.Shows.{listed-low, start-low}
+use Rattle.shows.proofs.Shows.{listed-low}
 use Rattle.extents.specs.Extents.{fitIn}
 use Rattle.freeruns.specs.OnImage.{startOr}
 use Rattle.freeruns.proofs.Drawn.{fit-drawn}
 use Rattle.allocating.specs.Allocating.{lowestOn}
-use Rattle.freeing.specs.Freeing.{marked}
 
 module _ (w : ℕ) (wide : 2 ≤ w) (narrow : w ≤ 255) (s : List ℕ) (B : Bytes s) (sound : brokenRule w s ≡ 0) where
   abbrev m : State

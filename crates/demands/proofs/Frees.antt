@@ -1,33 +1,30 @@
 -- Free on the bytes of a sound pool does what the model does, given what each operation does. Assumes nothing.
-use mathlib.Core.Path.{_≡_, refl, sym, ap, _∙_}
+use mathlib.Core.Path.{_≡_, refl, sym}
 use mathlib.Core.Logic.{_⊎_, inl, inr, _≢_}
-use mathlib.Core.Bool.{Bool, true, false, cond, _&&_}
+use mathlib.Core.Bool.{Bool, true, false, cond}
 use mathlib.Core.List.{List}
-use Prim.Native.Nat.{ℕ, suc, _+_, _-_, _*_, _/_, _%_, _≤_, _<_}
-use native.Mathlib.Nat.{div-lt-iff-lt-mul}
+use Prim.Native.Nat.{ℕ, _-_, _/_, _%_, _≤_, _<_}
 use native.Mathlib.Omega.{arith}
-use lib.Dec.{eqb, leb, ltb}
 use borrow.Author.Tests.{eq-eqb, ne-eqb, lt-ltb, le-ltb, le-leb, lt-leb}
 use Rattle.base.specs.Tests.{pick}
 use Rattle.base.proofs.Cases.{bool?, eq?, lt?}
 use Rattle.records.specs.Layout.{noPage}
-use Rattle.records.specs.declared.Links.{Links}
 use Rattle.records.specs.Page.{linksAt}
-use Rattle.answers.specs.Outcome.{Outcome, granted, refused}
-use Rattle.answers.specs.declared.Refusal.the-variants.{Outside, NotTaken, NotAStart}
+use Rattle.answers.specs.Outcome.{refused}
+use Rattle.answers.specs.declared.Refusal.the-variants.{Outside}
 use Rattle.bitmaps.specs.Bitmap.{withMark}
 use Rattle.base.specs.Functions.{upd}
 use Rattle.model.specs.Classes.{chunk, chunks, own, hasTaken, startsChunk}
 use Rattle.model.specs.State.{Page, idle, slab, taken, inside, edge, State}
 use Rattle.model.specs.Runs.{startsAt}
-use Rattle.model.specs.Calls.{Answer, freed, no, Reply, outside, notTaken, notAStart, refuse, release, freeChunk, freeAt, free}
+use Rattle.model.specs.Calls.{outside, notTaken, notAStart, refuse, release, freeChunk, freeAt, free}
 use Rattle.rules.specs.Bytes.{pagesIn, mapBase}
-use Rattle.rules.specs.Drawn.{links, onList, freeLinks, pageLinks}
+use Rattle.rules.specs.Drawn.{links, freeLinks, pageLinks}
 use Rattle.coalesce.specs.Release.{pagesReleased}
 use Rattle.chunks.specs.Chunks.{chunkFreed}
 use Rattle.freeing.specs.Freeing.{marked, markOutcome, markSlice, pastOutcome, pastSlice, startOutcome, startSlice, sizedOutcome, sizedSlice, offsetOutcome, offsetSlice, chunkOutcome, chunkSlice, runOutcome, runSlice, kindOutcome, kindSlice, pageOutcome, pageSlice, freeOutcome, freeSlice}
 use Rattle.drawing.specs.Draw.{draw}
-use Rattle.demands.specs.Calls.{outcome, clearedAt}
+use Rattle.demands.specs.Calls.{clearedAt}
 use Rattle.demands.proofs.Allocs.{Does}
 
 -- what reading and each operation do on the bytes s, which show the state m

@@ -2,30 +2,27 @@
 use mathlib.Core.Path.{_≡_, refl, sym, ap, _∙_, fun-ext}
 use mathlib.Core.Logic.{_⊎_, inl, inr, _≢_}
 use mathlib.Core.Bool.{Bool, true, false, _&&_, and-false}
-use mathlib.Core.List.{List}
-use Prim.Native.Nat.{ℕ, suc, _+_, _*_, _≤_, _<_}
+use Prim.Native.Nat.{ℕ, _≤_, _<_}
 use native.Mathlib.Omega.{arith}
-use lib.Dec.{eqb, leb, ltb}
+use lib.Dec.{leb, ltb}
 use borrow.Author.Tests.{eq-eqb, ne-eqb, lt-ltb, le-ltb, eqb-true}
 use Rattle.base.specs.Tests.{pick}
 use Rattle.base.specs.Count.{sum, count, bit}
 use Rattle.base.proofs.Cases.{clash, eq?, lt?}
 use Rattle.base.proofs.Count.{sum-zero}
 use Rattle.base.proofs.AllBelow.{all-at}
-use Rattle.records.specs.Layout.{noPage}
 use Rattle.records.specs.declared.Links.{Links}
-use Rattle.model.specs.Classes.{chunks, own, counted}
-use Rattle.model.specs.State.{Page, idle, slab, taken, inside, edge, State, Run, isIdle, marksOf}
+use Rattle.model.specs.Classes.{chunks, own}
+use Rattle.model.specs.State.{Page, idle, slab, taken, inside, edge, State, isIdle, marksOf}
 use Rattle.model.specs.Runs.{startsAt}
 use Rattle.model.specs.WellFormed.{WellFormed}
-use Rattle.model.specs.View.{View, Kind, kindOf, isClass, usedOf, totalIn, shown}
-use Rattle.model.proofs.Table.{is-idle}
+use Rattle.model.specs.View.{kindOf, isClass, usedOf, totalIn, shown}
 use Rattle.rules.specs.Fields.{Fields, kind, run, pageAt}
 use Rattle.rules.specs.Read.{isHead, readFields}
 use Rattle.rules.specs.Rules.{countsFit, rule6}
-use Rattle.rules.specs.Drawn.{starts, freeLinks, pageLinks, stateImage, stateFields}
-use Rattle.rules.specs.Agree.{Agree, Holds, Bounds}
-use Rattle.rules.proofs.Runs.{started, start-some}
+use Rattle.rules.specs.Drawn.{freeLinks, pageLinks, stateImage, stateFields}
+use Rattle.rules.specs.Agree.{Agree, Holds}
+use Rattle.rules.proofs.Runs.{started}
 use Rattle.demands.specs.Shown.{fieldView}
 use Rattle.base.proofs.Tests.{both-true}
 

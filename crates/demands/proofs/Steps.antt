@@ -1,10 +1,9 @@
 -- The code's steps on the bytes of a sound pool give the answer and the slice that the calls promise. Assumes nothing.
-use mathlib.Core.Path.{_≡_, refl, sym, ap, _∙_}
-use mathlib.Core.Logic.{_⊎_, inl, inr, _≢_}
+use mathlib.Core.Path.{_≡_, sym, ap, _∙_}
+use mathlib.Core.Logic.{_⊎_, inl, inr}
 use mathlib.Core.Bool.{Bool, true, false, cond, not}
-use mathlib.Core.Option.{some}
-use mathlib.Core.List.{List, [], _∷_}
-use Prim.Native.Nat.{ℕ, _+_, _-_, _*_, _/_, _%_, _≤_, _<_}
+use mathlib.Core.List.{List}
+use Prim.Native.Nat.{ℕ, _-_, _/_, _%_, _≤_, _<_}
 use native.Mathlib.Nat.{div-add-mod', mul-comm}
 use native.Mathlib.Omega.{arith}
 use lib.Dec.{eqb}
@@ -21,13 +20,11 @@ use Rattle.answers.specs.declared.Refusal.the-variants.{NotSound}
 use Rattle.bitmaps.specs.Bitmap.{withMark}
 use Rattle.model.specs.Classes.{chunk, chunks, own, lowest, hasTaken}
 use Rattle.model.specs.State.{State, slab, marksOf}
-use Rattle.model.specs.WellFormed.{WellFormed}
-use Rattle.model.specs.Calls.{Call, Alloc, Free, keepPage, dropPage, freeChunk, step}
+use Rattle.model.specs.Calls.{Call, Alloc, Free, dropPage, freeChunk, step}
 use Rattle.model.proofs.Classes.{chunk-index}
 use Rattle.rules.specs.Bytes.{pagesIn, mapBase, brokenRule, read}
-use Rattle.drawing.specs.Draw.{mapHas, draw}
+use Rattle.drawing.specs.Draw.{draw}
 use Rattle.drawing.specs.Claim.{Fitting}
-use Rattle.drawing.proofs.Laws.{claims as laws-of}
 use Rattle.chunks.specs.Chunks.{chunkTaken, pageCut, chunkFreed}
 use Rattle.classes.specs.Classes.{chunkRefused}
 use Rattle.extents.specs.Extents.{runTaken}
@@ -37,9 +34,9 @@ use Rattle.chunklaws.proofs.Laws.{claims as chunk-laws}
 use Rattle.freeruns.proofs.Drawn.{run-taken, run-released}
 use Rattle.allocating.specs.Allocating.{allocOutcome, allocSlice}
 use Rattle.freeing.specs.Freeing.{marked, freeOutcome, freeSlice}
-use Rattle.demands.specs.Calls.{outcome, answered, cleared, after}
+use Rattle.demands.specs.Calls.{answered, cleared, after}
 use Rattle.demands.proofs.Calls.{sound-answer, drawn-after}
-use Rattle.demands.proofs.Allocs.{AllocFacts, Does, alloc-does}
+use Rattle.demands.proofs.Allocs.{AllocFacts, alloc-does}
 use Rattle.demands.proofs.Frees.{FreeFacts, free-does}
 use Rattle.demands.proofs.Facts.{fitting, same, few, first-page, links-are, fit-is, past, ends, listed-page, run-found, marks-are, lowest-is, listed-slab}
 

@@ -1,6 +1,6 @@
 -- What alloc (document 01: take) and free (give) answer and leave, for every content of the slice. Assumes nothing.
 use Prim.Native.Nat.{ℕ, _/_, _%_}
-use mathlib.Core.Bool.{Bool, false, cond}
+use mathlib.Core.Bool.{false, cond}
 use mathlib.Core.List.{List}
 use lib.Dec.{eqb}
 use Rattle.base.specs.Tests.{pick}
@@ -9,7 +9,7 @@ use Rattle.answers.specs.declared.Refusal.the-variants.{NotSound}
 use Rattle.bitmaps.specs.Bitmap.{withMark}
 use Rattle.base.specs.Functions.{upd}
 use Rattle.model.specs.Classes.{chunk, hasTaken, startsChunk}
-use Rattle.model.specs.State.{Page, idle, slab, taken, inside, edge, State}
+use Rattle.model.specs.State.{Page, idle, slab, taken, inside, edge}
 use Rattle.model.specs.Calls.{Call, Alloc, Free, Answer, at, freed, no, step}
 use Rattle.rules.specs.Bytes.{pagesIn, mapBase, brokenRule, read}
 use Rattle.drawing.specs.Draw.{draw}

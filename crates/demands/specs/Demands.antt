@@ -1,9 +1,9 @@
 -- The three demands on the bytes of a pool, each citing definitions only.
 use mathlib.Core.Path.{_≡_}
 use mathlib.Core.Logic.{_↔_, _≢_}
-use mathlib.Core.Bool.{Bool, true, false}
+use mathlib.Core.Bool.{false}
 use mathlib.Core.List.{List, [], _∷_}
-use Prim.Native.Nat.{ℕ, _+_, _*_, _≤_, _<_}
+use Prim.Native.Nat.{ℕ, _+_, _≤_, _<_}
 use lib.Dec.{eqb}
 use lib.ListN.{length, getD}
 use Rattle.base.specs.Tests.{pick}
@@ -12,11 +12,9 @@ use Rattle.words.specs.Word.{Bytes}
 use Rattle.records.specs.Layout.{pagesFrom}
 use Rattle.answers.specs.Outcome.{Outcome, granted, refused}
 use Rattle.answers.specs.declared.Refusal.the-variants.{NotSound}
-use Rattle.model.specs.Classes.{Need, chunkOf, pages, needOf}
-use Rattle.model.specs.State.{State}
+use Rattle.model.specs.Classes.{chunkOf, pages, needOf}
 use Rattle.model.specs.Calls.{Call, Alloc, Free, tallied, step}
 use Rattle.model.specs.Live.{Block, offset, extent, Disjoint, Live, blockFor, elsewhere}
-use Rattle.model.specs.View.{View}
 use Rattle.model.specs.Expected.{expected}
 use Rattle.model.specs.Ruling.{Verdict, granted as allowed, refused as denied, clearIn, pageIn, runIn, ruling}
 use Rattle.model.specs.Claim.{BlocksPlaced}

@@ -7,8 +7,8 @@ use Rattle.words.specs.Word.{Bytes}
 use Rattle.records.specs.Class.{classAt}
 use Rattle.answers.specs.Outcome.{Outcome}
 use Rattle.model.specs.Classes.{maxPages, needOf}
-use Rattle.model.specs.State.{Run, Tally}
-use Rattle.model.specs.Calls.{Call, Answer}
+use Rattle.model.specs.State.{Run}
+use Rattle.model.specs.Calls.{Call}
 use Rattle.model.specs.Examples.{Question, sized, replies, tallyAfter, runsAfter, Fact, aChunk, somePages, answers, counts, freeRuns, Example, needed, examples}
 use Rattle.format.specs.Format.{shortest, tooLong, formatted}
 use Rattle.rules.specs.Bytes.{pagesIn, read}

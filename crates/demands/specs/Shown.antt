@@ -1,7 +1,6 @@
 -- What a pool shows in its records: free runs and class pages in the page records, chunk maps where they are kept, used and total in the
 -- class records. Assumes nothing.
 use Prim.Native.Nat.{ℕ}
-use mathlib.Core.Bool.{Bool}
 use mathlib.Core.List.{List}
 use lib.Dec.{ltb}
 use Rattle.base.specs.Tests.{pick}

@@ -14,7 +14,7 @@ use Rattle.base.proofs.Cases.{lt?, bool?, clash}
 use Rattle.words.specs.Word.{Bytes}
 use Rattle.records.specs.Layout.{pagesFrom}
 use Rattle.model.specs.Classes.{chunks}
-use Rattle.model.proofs.Classes.{small-chunks, large-chunks}
+use Rattle.model.proofs.Classes.{small-chunks}
 use Rattle.model.specs.State.{slab, State}
 use Rattle.bitmaps.specs.Bitmap.{bitsOf}
 use Rattle.bitmaps.proofs.Bits.{byte-small}

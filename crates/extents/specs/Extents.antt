@@ -9,7 +9,7 @@ use Rattle.records.specs.declared.Header.{Header}
 use Rattle.records.specs.declared.Links.{Links}
 use Rattle.records.specs.Header.{headerAt, withHeader}
 use Rattle.records.specs.Page.{linksAt, withLinks}
-use Rattle.lists.specs.Links.{unlinked, pushed, replaced}
+use Rattle.lists.specs.Links.{unlinked, replaced}
 use Rattle.rules.specs.Drawn.{links}
 
 abbrev pub wrap : ℕ → ℕ

@@ -1,19 +1,17 @@
 -- The stores of format paint one free run, and the three cases of a length. Assumes nothing.
-use mathlib.Core.Path.{_≡_, refl, sym, ap, _∙_}
+use mathlib.Core.Path.{_≡_, refl}
 use mathlib.Core.List.{List}
-use Prim.Native.Nat.{ℕ, _+_, _-_, _*_, _/_, _≤_, _<_}
+use Prim.Native.Nat.{ℕ, _-_, _≤_, _<_}
 use native.Mathlib.Omega.{arith}
-use lib.Dec.{leb, ltb}
 use lib.ListN.{length}
 use borrow.Author.Tests.{lt-ltb, le-ltb, le-leb, lt-leb}
 use Rattle.base.specs.Tests.{pick}
 use Rattle.records.specs.Layout.{pageCount}
 use Rattle.records.specs.Header.{withHeader}
-use Rattle.records.specs.Page.{withLinks}
-use Rattle.image.specs.Image.{headerOf, writeAt, paint}
+use Rattle.image.specs.Image.{headerOf, paint}
 use Rattle.image.specs.Update.{setLinks}
 use Rattle.image.proofs.Paint.{links-paint}
-use Rattle.answers.specs.Outcome.{Outcome, granted, refused}
+use Rattle.answers.specs.Outcome.{granted, refused}
 use Rattle.answers.specs.declared.Refusal.the-variants.{TooShort, TooLong}
 use Rattle.format.specs.Format.{shortest, tooLong, formatOutcome, insideFree, firstFree, allFree, freshImage, formatted, filled, classesCleared, pagesCleared, runLinked, written}
 

@@ -4,8 +4,7 @@ use mathlib.Core.List.{List}
 use lib.Dec.{leb, ltb}
 use lib.ListN.{length}
 use Rattle.base.specs.Tests.{pick}
-use Rattle.words.specs.Word.{setWord}
-use Rattle.records.specs.Layout.{noPage, countsPlace, tallyPlace, mapPlace, linksPlace, pageCount}
+use Rattle.records.specs.Layout.{noPage, pageCount}
 use Rattle.model.specs.Classes.{maxPages}
 use Rattle.records.specs.declared.ClassRecord.{ClassRecord}
 use Rattle.records.specs.declared.Links.{Links}

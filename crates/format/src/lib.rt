@@ -7,8 +7,6 @@ use records::PageNumber;
 ghost use mathlib.Core.Path.{_≡_};
 ghost use Prim.Native.Nat.{_≤_, _<_};
 ghost use lib.ListN.{length};
-ghost use Rattle.records.specs.Layout.{noPage, pageCount};
-ghost use Rattle.records.specs.Class.{packCounts, packTally};
 ghost use Rattle.image.specs.Image.{headerOf};
 ghost use Rattle.format.specs.Format.{outcomeOf, formatOutcome, emptyClass, insideFree, firstFree, formatted, filled, classesCleared, pagesCleared, runLinked, written};
 

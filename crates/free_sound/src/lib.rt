@@ -35,7 +35,7 @@ fn free_kind(pool: &mut [u8], w: u8, pages: u16, p: PageNumber, q: u32, l: Links
         return Freed::Refused(Refusal::NotTaken);
     }
     if l.kind == 2 {
-        return free_chunks::free_class(pool, w, pages, l.class, p, q);
+        return free_to_class::free_class(pool, w, pages, l.class, p, q);
     }
     if l.kind == 3 {
         return free_run(pool, w, pages, l.run, p, q);

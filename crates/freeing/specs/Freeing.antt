@@ -1,5 +1,5 @@
 -- Free on sound records, in the bytes of a pool of P pages: what is answered and what is left, in the order of the code. Assumes nothing.
-use Prim.Native.Nat.{ℕ, zero, suc, _+_, _*_, _/_, _%_}
+use Prim.Native.Nat.{ℕ, _/_, _%_}
 use mathlib.Core.Bool.{Bool}
 use mathlib.Core.List.{List}
 use lib.Dec.{eqb, leb, ltb}

@@ -1,8 +1,8 @@
 -- What each store does to a painted image, and what a painted image shows. Assumes nothing.
-use mathlib.Core.Path.{_≡_, refl, sym, ap, _∙_, subst}
+use mathlib.Core.Path.{_≡_, sym, ap, _∙_}
 use mathlib.Core.Logic.{_⊎_, inl, inr, _≢_}
-use mathlib.Core.List.{List, [], _∷_}
-use Prim.Native.Nat.{ℕ, zero, suc, _+_, _-_, _*_, _/_, _≤_, _<_}
+use mathlib.Core.List.{List}
+use Prim.Native.Nat.{ℕ, _+_, _-_, _*_, _/_, _≤_, _<_}
 use native.Mathlib.Omega.{arith}
 use lib.ListN.{length, getD, set}
 use Rattle.base.specs.Functions.{upd}
@@ -15,11 +15,11 @@ use Rattle.records.specs.Layout.{countsPlace, tallyPlace, mapPlace, linksPlace,
 use Rattle.records.specs.declared.ClassRecord.{ClassRecord}
 use Rattle.records.specs.declared.Links.{Links}
 use Rattle.records.specs.Header.{packHeader, unpackHeader, headerAt, withHeader}
-use Rattle.records.specs.Class.{packCounts, packTally, unpackClass, classAt, withClass}
+use Rattle.records.specs.Class.{packCounts, packTally, classAt, withClass}
 use Rattle.records.specs.Page.{packLinks, unpackLinks, linksAt, withLinks}
 use Rattle.records.proofs.Laws.{HeaderFits, ClassFits, LinksFit, unpack-pack-header, unpack-pack-class, unpack-pack-links}
 use Rattle.image.specs.Image.{Image, headerOf, writeAt, paint}
-use Rattle.image.specs.Update.{setFree, setFirstRun, setClass, setMap, setAllLinks, setLinks}
+use Rattle.image.specs.Update.{setFree, setFirstRun, setClass, setMap, setLinks}
 use Rattle.image.proofs.Places.{class-apart, counts-tally, class-below}
 use Rattle.image.proofs.Write.{length-write, write-ext, byte-past, byte-kept, set-past, word-past, set-write, word-write}
 

@@ -1,11 +1,10 @@
 -- No two records share a word, whatever the width of a class record. Assumes nothing.
-use mathlib.Core.Path.{_≡_}
-use mathlib.Core.Logic.{_⊎_, inl, inr, ⊎-elim, _≢_}
-use Prim.Native.Nat.{ℕ, suc, _+_, _*_, _≤_, _<_}
+use mathlib.Core.Logic.{_⊎_, ⊎-elim, _≢_}
+use Prim.Native.Nat.{ℕ, _+_, _*_, _≤_, _<_}
 use native.Mathlib.Omega.{arith}
 use native.Mathlib.Nat.{mul-le-mul-left}
 use Rattle.base.proofs.Cases.{lt?}
-use Rattle.records.specs.Layout.{countsPlace, tallyPlace, mapPlace, linksPlace}
+use Rattle.records.specs.Layout.{countsPlace, tallyPlace}
 
 module _ (w : ℕ) (wide : 2 ≤ w) where
   -- class record c ends before class record d begins

@@ -1,8 +1,8 @@
 -- The records of a pool as functions, one for each kind of record, and the bytes that they make. Assumes nothing.
 -- Everything above speaks of an image; words and bytes stay in this file's `paint`.
-use mathlib.Core.List.{List, [], _∷_}
-use Prim.Native.Nat.{ℕ, zero, suc, _+_, _-_, _*_}
-use Rattle.words.specs.Word.{word, setWord}
+use mathlib.Core.List.{List}
+use Prim.Native.Nat.{ℕ, zero, suc, _-_}
+use Rattle.words.specs.Word.{setWord}
 use Rattle.records.specs.Layout.{countsPlace, tallyPlace, mapPlace, linksPlace}
 use Rattle.records.specs.declared.Header.{Header}
 use Rattle.records.specs.declared.ClassRecord.{ClassRecord}

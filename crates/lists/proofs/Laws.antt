@@ -1,16 +1,14 @@
 -- Unlink, push front and replace in place change one list and leave the nine others, and nothing but next, previous and first pages. Assumes nothing.
 use mathlib.Core.Path.{_≡_, refl, sym, ap, _∙_}
-use mathlib.Core.Logic.{_⊎_, inl, inr, ⊎-elim, _≢_}
-use mathlib.Core.Bool.{cond}
+use mathlib.Core.Logic.{_⊎_, inl, inr, _≢_}
 use mathlib.Core.List.{List, [], _∷_}
 use Prim.Native.Nat.{ℕ, _+_, _-_, _≤_, _<_}
 use native.Mathlib.Omega.{arith}
-use lib.Dec.{eqb, ltb}
 use borrow.Author.Tests.{eq-eqb, ne-eqb, lt-ltb, le-ltb}
 use Rattle.base.specs.Tests.{pick}
 use Rattle.base.specs.Functions.{upd}
 use Rattle.base.specs.Lists.{Mem, NoDup, keep}
-use Rattle.base.specs.Links.{headOr, nextIn, prevFrom, others, replace, node, Linked}
+use Rattle.base.specs.Links.{headOr, nextIn, others, replace, node}
 use Rattle.base.proofs.Cases.{eq?, lt?}
 use Rattle.base.proofs.Functions.{upd-same, upd-other, upd-at}
 use Rattle.base.proofs.Neighbours.{next-on, prev-on}

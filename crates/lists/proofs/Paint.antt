@@ -1,28 +1,24 @@
 -- What the changes of a list do to a painted image. Assumes nothing.
-use mathlib.Core.Path.{_≡_, refl, sym, ap, _∙_}
-use mathlib.Core.Logic.{_⊎_, inl, inr, ⊎-elim, _≢_}
+use mathlib.Core.Path.{_≡_, refl, sym, ap}
+use mathlib.Core.Logic.{_⊎_, inl, inr, _≢_}
 use mathlib.Core.List.{List}
 use Prim.Native.Nat.{ℕ, _+_, _-_, _*_, _/_, _≤_, _<_}
 use native.Mathlib.Omega.{arith}
 use lib.ListN.{length}
 use borrow.Author.Tests.{eq-eqb, ne-eqb}
 use Rattle.base.specs.Tests.{pick}
-use Rattle.base.specs.Functions.{upd}
 use Rattle.base.proofs.Cases.{eq?}
 use Rattle.base.proofs.Functions.{upd-other}
 use Rattle.records.specs.Layout.{noPage}
 use Rattle.records.specs.declared.Header.{Header}
 use Rattle.records.specs.declared.ClassRecord.{ClassRecord}
 use Rattle.records.specs.declared.Links.{Links}
-use Rattle.records.specs.Header.{headerAt, withHeader}
-use Rattle.records.specs.Class.{classAt, withClass}
-use Rattle.records.specs.Page.{linksAt, withLinks}
 use Rattle.records.proofs.Laws.{ClassFits, LinksFit}
-use Rattle.image.specs.Image.{Image, headerOf, paint}
-use Rattle.image.specs.Update.{setFirstRun, setClass, setLinks}
-use Rattle.image.proofs.Paint.{Same, paint-ext, links-paint, class-paint, header-paint, links-shown, class-shown, header-shown}
+use Rattle.image.specs.Image.{Image, paint}
+use Rattle.image.specs.Update.{setLinks}
+use Rattle.image.proofs.Paint.{paint-ext, links-paint, class-paint, header-paint, links-shown, class-shown, header-shown}
 use Rattle.image.proofs.Fits.{Fits, header-fits, fits-first-run, fits-class, fits-links}
-use Rattle.lists.specs.Links.{firstRunTo, firstTo, between, nextTo, prevTo, firstOf, withFirstRun, withFirstPage, withFirst, linkedNext, linkedPrev, withNext, withPrev, unlinked, pushedBefore, pushed, replaced}
+use Rattle.lists.specs.Links.{firstTo, between, nextTo, prevTo, firstOf, withFirstRun, withFirstPage, withFirst, linkedNext, linkedPrev, withNext, withPrev, unlinked, pushedBefore, pushed, replaced}
 use Rattle.lists.specs.Nodes.{firstIn, putFirst, putNext, putPrev, unlink, push, put}
 
 -- a page of P, or none

@@ -1,5 +1,5 @@
 -- The ten lists in the bytes of a pool: list 0 is the list of free runs, list 1 + c the list of class c. Assumes nothing.
-use Prim.Native.Nat.{ℕ, _+_, _-_}
+use Prim.Native.Nat.{ℕ, _-_}
 use mathlib.Core.List.{List}
 use lib.Dec.{eqb}
 use Rattle.base.specs.Tests.{pick}

@@ -2,7 +2,7 @@
 use Prim.Native.Nat.{ℕ, _+_, _*_, _/_, _%_}
 use mathlib.Core.List.{List}
 use Rattle.words.specs.Word.{word, setWord}
-use Rattle.records.specs.Layout.{mapPlace, linksPlace}
+use Rattle.records.specs.Layout.{linksPlace}
 use Rattle.records.specs.declared.Links.{Links}
 
 -- kind 3 bits, class 4, run length 16, next 16, previous 16, nine zero bits

@@ -11,7 +11,7 @@ use Rattle.base.proofs.Cases.{eq?, lt?, never, clash}
 use Rattle.base.proofs.AllBelow.{pick-yes, pick-no}
 use Rattle.records.specs.Layout.{noPage}
 use Rattle.records.specs.declared.Links.{Links}
-use Rattle.model.specs.Classes.{chunks, own}
+use Rattle.model.specs.Classes.{chunks}
 use Rattle.model.specs.State.{Page, idle, slab, taken, inside, edge, Run, State, isIdle, marksOf}
 use Rattle.model.specs.Runs.{startsAt, endsAt}
 use Rattle.model.specs.WellFormed.{Stretch, RunsOk, WellFormed}

@@ -1,13 +1,12 @@
 -- The fields that a state determines. Assumes nothing.
-use Prim.Native.Nat.{ℕ, zero, suc, _+_, _-_}
-use mathlib.Core.Bool.{Bool, true, false}
+use Prim.Native.Nat.{ℕ, _+_, _-_}
 use mathlib.Core.List.{List, [], _∷_}
 use lib.Dec.{eqb, ltb}
 use Rattle.base.specs.Tests.{pick}
 use Rattle.base.specs.Links.{headOr, nextIn, prevFrom}
 use Rattle.records.specs.Layout.{noPage}
 use Rattle.records.specs.declared.Links.{Links}
-use Rattle.model.specs.State.{Page, idle, slab, taken, inside, edge, State, Run, Tally, marksOf}
+use Rattle.model.specs.State.{Page, idle, slab, taken, inside, edge, State, Run, marksOf}
 use Rattle.model.specs.Runs.{startsAt, endsAt}
 use Rattle.model.specs.View.{usedOf, shown}
 use Rattle.bitmaps.specs.Bitmap.{bitsOf}

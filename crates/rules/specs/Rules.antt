@@ -1,7 +1,7 @@
 -- Rules 2 to 6 of document 01 as tests on the fields v of n pages. Assumes nothing.
 use Prim.Native.Nat.{ℕ, zero, suc, _+_, _-_, _%_, _^_}
 use mathlib.Core.Bool.{Bool, true, false, not}
-use mathlib.Core.List.{List, [], _∷_}
+use mathlib.Core.List.{[], _∷_}
 use lib.Dec.{eqb, leb, ltb}
 use Rattle.base.specs.Tests.{pick, allOf, allBelow}
 use Rattle.base.specs.Count.{count}

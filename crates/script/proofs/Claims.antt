@@ -17,6 +17,7 @@ use Rattle.printout.specs.Text.{line, written, Prints}
 use Rattle.replies.specs.Replies.{poolWord, noWord, refusalLine}
 use Rattle.script.specs.Script.{longest, pages, reply, next, replies, final, session, transcript, printout}
 use Rattle.script.specs.Claim.{Claims}
+use Rattle.script.proofs.Numbers.{reads-back}
 use Rattle.script.proofs.Room.{line-few, session-fits}
 
 line-by-line : (m : State) (ls : List (List ℕ)) (k : ℕ) → k < length ls → getD (replies m ls) k [] ≡ reply (final m (take k ls)) (request (getD ls k []))
@@ -44,7 +45,7 @@ fits input = go (leb (length input) longest) refl
     go false e = omega (arith, refusal-few)
 
 pub claims : Claims
-claims = record { line-by-line = line-by-line; one-each = one-each; fits = fits }
+claims = record { line-by-line = line-by-line; one-each = one-each; reads-back = reads-back; fits = fits }
 
 -- ---- what serving makes of it
 

@@ -3,3 +3,4 @@ pub mod Room
 pub mod Alike
 pub mod Claims
 pub mod Example
+pub mod Numbers

@@ -1,14 +1,14 @@
 -- An image that shows the links of a well-formed state has them, page by page; and the state's own image shows them. Assumes nothing.
-use mathlib.Core.Path.{_≡_, refl, sym, ap, _∙_}
+use mathlib.Core.Path.{_≡_, refl, sym, _∙_}
 use mathlib.Core.Logic.{_⊎_, inl, inr, _≢_}
-use mathlib.Core.Bool.{Bool, true, false}
-use mathlib.Core.List.{List, [], _∷_}
-use Prim.Native.Nat.{ℕ, suc, _+_, _-_, _≤_, _<_}
+use mathlib.Core.Bool.{true, false}
+use mathlib.Core.List.{List, _∷_}
+use Prim.Native.Nat.{ℕ, suc, _-_, _≤_, _<_}
 use native.Mathlib.Omega.{arith}
 use borrow.Author.Tests.{eq-eqb, ne-eqb}
 use Rattle.base.specs.Tests.{pick}
-use Rattle.base.specs.Lists.{Mem, NoDup}
-use Rattle.base.specs.Links.{headOr, nextIn, prevFrom, Linked}
+use Rattle.base.specs.Lists.{Mem}
+use Rattle.base.specs.Links.{headOr, nextIn, prevFrom}
 use Rattle.base.proofs.Cases.{clash, bool?, eq?, lt?}
 use Rattle.records.specs.Layout.{noPage}
 use Rattle.records.specs.declared.Links.{Links}
@@ -16,13 +16,13 @@ use Rattle.model.specs.State.{Page, idle, slab, taken, inside, edge, Run, State
 use Rattle.model.specs.Runs.{startsAt}
 use Rattle.model.proofs.Table.{is-idle}
 use Rattle.model.proofs.Lists.{open-is}
-use Rattle.model.specs.WellFormed.{RunsOk, ListsOk, TableOk, PageOk, ClassOk, WellFormed, isOpen}
+use Rattle.model.specs.WellFormed.{RunsOk, ListsOk, TableOk, WellFormed, isOpen}
 use Rattle.image.specs.Image.{Image}
 use Rattle.lists.specs.Links.{between}
 use Rattle.lists.specs.Nodes.{head, firstIn, nextOf, prevOf, Listed}
 use Rattle.rules.specs.Drawn.{starts, links, onList, freeLinks, pageLinks, stateImage}
 use Rattle.rules.proofs.Runs.{mem-start, start-some, starts-mem}
-use Rattle.shows.specs.Shows.{Unlisted, ShowsOn, ShowsLinks}
+use Rattle.shows.specs.Shows.{ShowsLinks}
 use Rattle.lists.proofs.Laws.{next-page, next-head}
 
 -- a page of a list, with the kind, class and run that it should have

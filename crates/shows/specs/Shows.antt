@@ -3,7 +3,6 @@ use mathlib.Core.Path.{_≡_}
 use mathlib.Core.List.{List}
 use Prim.Native.Nat.{ℕ, suc, _≤_, _<_}
 use Rattle.base.specs.Lists.{Mem}
-use Rattle.records.specs.declared.Links.{Links}
 use Rattle.model.specs.State.{Page, Run}
 use Rattle.image.specs.Image.{Image}
 use Rattle.lists.specs.Links.{between}

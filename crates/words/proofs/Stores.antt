@@ -1,13 +1,13 @@
 -- Stores into words: the later of two into one word stands, and stores into two words change places. Assumes nothing.
-use mathlib.Core.Path.{_≡_, refl, sym, ap, _∙_}
+use mathlib.Core.Path.{_≡_, sym, _∙_}
 use mathlib.Core.Logic.{_⊎_, inl, inr, ⊎-elim, _≢_}
-use mathlib.Core.List.{List, [], _∷_}
-use Prim.Native.Nat.{ℕ, zero, suc, _+_, _*_, _/_, _%_, _≤_, _<_}
+use mathlib.Core.List.{List}
+use Prim.Native.Nat.{ℕ, _+_, _*_, _/_, _%_, _≤_, _<_}
 use native.Mathlib.Omega.{arith}
-use lib.ListN.{getD, set, length, length-set}
+use lib.ListN.{set, length, length-set}
 use lib.Seq.{set-set, set-comm}
 use Rattle.base.proofs.Cases.{lt?}
-use Rattle.words.specs.Word.{word, setWord, withPair, withHalf, withWord}
+use Rattle.words.specs.Word.{setWord, withHalf, withWord}
 use Rattle.words.proofs.Laws.{here?, set-in, set-out, length-setWord}
 
 record Over (n : ℕ) (put : List ℕ → ℕ → ℕ → List ℕ) : Type 0 where

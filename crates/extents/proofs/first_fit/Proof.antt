@@ -1,4 +1,3 @@
-use borrow.Author.Needs.{needs}
 use mathlib.Core.Path.{_≡_}
 use Rattle.extents.specs.Extents.{fitFrom, fitIn}
 use Rattle.extents.proofs.Steps.{fits, fit-here}

@@ -1,5 +1,5 @@
-use Rattle.model.specs.Calls.{Alloc, Free}
-use Rattle.demands.proofs.Steps.{refused-unsound, alloc-steps, free-steps}
+use Rattle.model.specs.Calls.{Free}
+use Rattle.demands.proofs.Steps.{refused-unsound, free-steps}
 use borrow.Author.Needs.{needs}
 use Rattle.pool.proofs.free.Statement.{statement}
 use Rattle.pool.proofs.free.Tie as tie

@@ -1,0 +1,30 @@
+use Rattle.allocating.specs.Allocating.{cutOutcome, cutSlice}
+use Rattle.base.proofs.Tests.{picks}
+use borrow.Author.Needs.{needs}
+use Rattle.alloc_from_class.proofs.cut_or_refuse.Statement.{statement}
+use Rattle.alloc_from_class.proofs.cut_or_refuse.Tie as tie
+
+refuse-chunk-requires : tie.Need-refuse-chunk-requires
+refuse-chunk-requires c κs = search needs
+
+cut-page-requires : tie.Need-cut-page-requires
+cut-page-requires c κs = search needs
+
+same-length : tie.Need-same-length
+same-length c = search needs
+
+returns : tie.Need-returns
+unfolding cutOutcome cutSlice
+returns c = (search picks, search picks)
+
+same-length-2 : tie.Need-same-length-2
+same-length-2 c = search needs
+
+returns-2 : tie.Need-returns-2
+unfolding cutOutcome cutSlice
+returns-2 c = (search picks, search picks)
+
+pub cut-or-refuse-spec : {M : Type 1} → statement M
+cut-or-refuse-spec =
+    tie.close
+    (tie.spec refuse-chunk-requires cut-page-requires same-length returns same-length-2 returns-2)
