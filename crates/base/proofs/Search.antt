@@ -1,5 +1,5 @@
 -- Laws of `specs/Search.antt`.
-use mathlib.Core.Path.{_≡_, refl}
+use mathlib.Core.Path.{_≡_, refl, sym, _∙_}
 use mathlib.Core.Logic.{_⊎_, inl, inr, _≢_}
 use mathlib.Core.Bool.{Bool, true, false, cond}
 use Prim.Native.Nat.{ℕ, zero, suc, _≤_, _<_}
@@ -62,3 +62,15 @@ any-at q n i h e = go (any q n) refl
     go : (t : Bool) → any q n ≡ t → any q n ≡ true
     go true d = d
     go false d = absurd (clash e (any-false q n d i h))
+
+-- tests that agree
+pub least-ext : (p q : ℕ → Bool) (n : ℕ) → ((i : ℕ) → i < n → p i ≡ q i) → least p n ≡ least q n
+least-ext p q n e =
+    let t = least-spec p n in
+    sym
+    (least-is q n (least p n)
+    (record {
+      at-most = t .at-most;
+      before = λ i l. sym (e i (omega (arith, t .at-most))) ∙ t .before i l;
+      passes = λ l. sym (e (least p n) l) ∙ t .passes l;
+    }))

@@ -11,21 +11,10 @@ use borrow.Author.Tests.{eqb-true, not-false}
 use Rattle.base.specs.Search.{least, any}
 use Rattle.base.specs.Tests.{pick}
 use Rattle.base.proofs.Cases.{eq?, lt?}
-use Rattle.base.proofs.Search.{least-spec, least-is, any-false}
+use Rattle.base.proofs.Search.{least-is, least-ext, any-false}
 use Rattle.bitmaps.specs.Bitmap.{bitOf, mark, lowestClear, mapBytes, splice}
 use Rattle.bitmaps.proofs.Maps.{map-mark}
 use Rattle.bitmaps.proofs.Marks.{mark-at}
-
-pub least-ext : (p q : ℕ → Bool) (n : ℕ) → ((i : ℕ) → i < n → p i ≡ q i) → least p n ≡ least q n
-least-ext p q n e =
-    let t = least-spec p n in
-    sym
-    (least-is q n (least p n)
-    (record {
-      at-most = t .at-most;
-      before = λ i l. sym (e i (omega (arith, t .at-most))) ∙ t .before i l;
-      passes = λ l. sym (e (least p n) l) ∙ t .passes l;
-    }))
 
 -- the lowest clear mark of a map that was written
 pub map-lowest : (s : List ℕ) (base n : ℕ) → base + n ≤ length s → (m : ℕ → Bool) (k : ℕ) → k ≤ 8 * n →

@@ -29,7 +29,6 @@ use Rattle.model.proofs.Classes.{large-chunks}
 use Rattle.model.proofs.Table.{in-table, slab-ok}
 use Rattle.model.proofs.Lists.{open-is}
 use Rattle.bitmaps.specs.Bitmap.{mark, withMark, lowestClear}
-use Rattle.bitmaps.proofs.Search.{least-ext}
 use Rattle.image.specs.Image.{Image, paint}
 use Rattle.image.specs.Update.{setMap}
 use Rattle.image.proofs.Fits.{Fits}
@@ -52,6 +51,7 @@ use Rattle.drawing.specs.Draw.{inMap, mappedByte, mapped, draw}
 use Rattle.drawing.proofs.Mapped.{length-mapped}
 use Rattle.drawing.proofs.Drawn.{map-small}
 use Rattle.base.proofs.Count.{sum-ext}
+use Rattle.base.proofs.Search.{least-ext}
 use Rattle.chunklaws.proofs.Counts.{used-frame, total-frame, free-frame, used-none, marks-count}
 use Rattle.chunklaws.specs.Midway.{midway}
 use Rattle.chunklaws.proofs.Maps.{marks-shown, mark-drawn}

@@ -24,10 +24,10 @@ use Rattle.model.proofs.Table.{slab-ok}
 use Rattle.bitmaps.specs.Bitmap.{mark, bitsOf}
 use Rattle.bitmaps.proofs.Bits.{bits-small, bit-byte}
 use Rattle.bitmaps.proofs.Words.{word-mark}
-use Rattle.image.specs.Image.{headerOf, paint}
+use Rattle.image.specs.Image.{headerOf, paint, Same}
 use Rattle.image.proofs.Fits.{Fits, header-fits}
 use Rattle.image.proofs.Write.{length-write, word-write}
-use Rattle.image.proofs.Paint.{Same, length-paint, byte-shown, links-shown, map-shown, class-shown, header-shown}
+use Rattle.image.proofs.Paint.{length-paint, byte-shown, links-shown, map-shown, class-shown, header-shown}
 use Rattle.rules.specs.Drawn.{pageLinks, mapOf, stateImage, stateFields}
 use Rattle.rules.specs.Bytes.{pagesIn, markAt, imageOf, fieldsOf, rule1}
 use Rattle.rules.specs.Agree.{Agree}
@@ -38,7 +38,8 @@ use Rattle.drawing.specs.Draw.{inMap, mapped, draw}
 use Rattle.model.proofs.Classes.{small-chunks, large-chunks}
 use Rattle.drawing.proofs.Mapped.{length-mapped, mapped-kept, mapped-keeps, mapped-map}
 use Rattle.drawing.proofs.Encoding.{mark-past, mark-paged, mark-recorded}
-use Rattle.drawing.proofs.Records.{paint-keeps, rule1-holds}
+use Rattle.rules.proofs.Rule1.{rule1-holds}
+use Rattle.drawing.proofs.Records.{paint-keeps}
 
 pub map-small : (x : Page) → mapOf x < 18446744073709551616
 map-small idle = lit< tt

@@ -21,8 +21,8 @@ use Rattle.model.specs.Classes.{own, counted}
 use Rattle.model.specs.State.{idle, edge, Run}
 use Rattle.model.specs.Calls.{fresh}
 use Rattle.model.specs.View.{totalIn, usedOf, shown}
-use Rattle.image.specs.Image.{paint}
-use Rattle.image.proofs.Paint.{Same, paint-ext}
+use Rattle.image.specs.Image.{paint, Same}
+use Rattle.image.proofs.Paint.{paint-ext}
 use Rattle.format.specs.Format.{shortest, tooLong, insideFree, firstFree, freshImage, formatted}
 use Rattle.rules.specs.Rules.{freeIn}
 use Rattle.rules.specs.Drawn.{backLink, freeLinks, stateImage}

@@ -6,6 +6,7 @@ use mathlib.Core.List.{List}
 use Prim.Native.Nat.{ℕ, suc, _≤_, _<_}
 use native.Mathlib.Omega.{arith}
 use lib.ListN.{length}
+use Rattle.image.specs.Image.{Same}
 use Rattle.base.specs.Tests.{pick}
 use Rattle.base.proofs.AllBelow.{pick-yes, pick-same}
 use Rattle.words.specs.Word.{Bytes}
@@ -14,7 +15,7 @@ use Rattle.model.specs.State.{State}
 use Rattle.model.specs.Calls.{Call, fresh, step}
 use Rattle.model.proofs.Fresh.{fresh-well}
 use Rattle.model.proofs.Steps.{step-kept}
-use Rattle.image.proofs.Paint.{Same, paint-ext}
+use Rattle.image.proofs.Paint.{paint-ext}
 use Rattle.format.specs.Format.{shortest, tooLong, formatted}
 use Rattle.rules.specs.Fields.{Fields}
 use Rattle.rules.specs.Read.{readFields}
@@ -29,7 +30,8 @@ use Rattle.rules.proofs.Drawn.{fields-drawn}
 use Rattle.drawing.specs.Draw.{draw}
 use Rattle.drawing.specs.Noise.{SameRecords}
 use Rattle.drawing.specs.Claim.{Fitting, Laws, Claims}
-use Rattle.drawing.proofs.Records.{rule1-says, paint-back}
+use Rattle.rules.proofs.Rule1.{rule1-says}
+use Rattle.drawing.proofs.Records.{paint-back}
 use Rattle.drawing.proofs.Encoding.{fields-bounds, mapped-read}
 use Rattle.drawing.proofs.Drawn.{length-drawn, drawn-kept, pages-drawn, drawn-keeps, rule1-drawn, drawn-shows}
 use Rattle.drawing.proofs.Noise.{pages-same, fields-same, rule1-same}

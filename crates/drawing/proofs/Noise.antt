@@ -5,6 +5,7 @@ use mathlib.Core.List.{List}
 use Prim.Native.Nat.{ℕ, _+_, _*_, _/_, _%_, _≤_, _<_}
 use native.Mathlib.Omega.{arith}
 use lib.ListN.{length, getD}
+use Rattle.image.specs.Image.{Same}
 use Rattle.base.proofs.Cases.{lt?}
 use Rattle.words.specs.Word.{word}
 use Rattle.words.proofs.Laws.{words, here?, word-in, word-out}
@@ -16,7 +17,6 @@ use Rattle.records.specs.Page.{unpackLinks, linksAt}
 use Rattle.model.specs.Classes.{chunks}
 use Rattle.bitmaps.proofs.Marks.{mark-byte}
 use Rattle.image.proofs.Places.{class-below}
-use Rattle.image.proofs.Paint.{Same}
 use Rattle.rules.specs.Fields.{class}
 use Rattle.rules.specs.Bytes.{pagesIn, markAt, imageOf, fieldsOf, rule1}
 use Rattle.rules.specs.Agree.{Agree}

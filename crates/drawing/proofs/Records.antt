@@ -1,12 +1,8 @@
 -- Records written back as they stand change nothing, and painting leaves bytes. Assumes nothing.
 use mathlib.Core.Path.{_≡_, refl, sym}
-use mathlib.Core.Bool.{true}
 use mathlib.Core.List.{List}
-use Prim.Native.Nat.{ℕ, zero, suc, _+_, _-_, _*_, _%_, _≤_, _<_}
+use Prim.Native.Nat.{ℕ, zero, suc, _-_, _%_, _≤_, _<_}
 use native.Mathlib.Omega.{arith}
-use lib.ListN.{length}
-use borrow.Author.Tests.{leb-true, eqb-true, le-leb, eq-eqb}
-use Rattle.base.proofs.AllBelow.{each-of, all-of}
 use Rattle.words.specs.Word.{Bytes, word, setWord}
 use Rattle.words.proofs.Laws.{word-small, setWord-back, setWord-keeps}
 use Rattle.records.specs.Layout.{countsPlace, tallyPlace, mapPlace, linksPlace}
@@ -14,10 +10,10 @@ use Rattle.records.specs.Header.{packHeader, headerAt}
 use Rattle.records.specs.Class.{packCounts, packTally, classAt}
 use Rattle.records.specs.Page.{packLinks, linksAt}
 use Rattle.records.proofs.Laws.{pack-unpack-header, pack-unpack-counts, pack-unpack-tally, pack-unpack-links, header-small, counts-small, tally-small, links-small}
-use Rattle.model.specs.Classes.{maxPages}
 use Rattle.image.specs.Image.{Image, headerOf, writeAt, paint}
 use Rattle.image.proofs.Fits.{Fits, header-fits}
-use Rattle.rules.specs.Bytes.{pagesIn, imageOf, rule1}
+use Rattle.rules.specs.Bytes.{pagesIn, imageOf}
+use Rattle.rules.specs.Plain.{Rule1}
 
 module _ (at : ℕ → ℕ) where
   pub write-back : (n : ℕ) (f : ℕ → ℕ) (s : List ℕ) → Bytes s → ((i : ℕ) → i < n → f i ≡ word s (at i)) → writeAt at n f s ≡ s
@@ -43,40 +39,6 @@ paint-keeps w P I s a b F M B =
     (λ c l. tally-small _ (F .class c l)))
     M)
     (λ p l. links-small _ (F .links p l))
-
--- ---- rule 1
-
-pub record Rule1 (w : ℕ) (s : List ℕ) : Type 0 where
-  pub some : 8 + 72 * w + 4112 ≤ length s
-  pub few : pagesIn w s ≤ maxPages
-  pub edition : headerAt s .edition ≡ w - 1
-  pub min-shift : headerAt s .«min_shift» ≡ 3
-  pub page-shift : headerAt s .«page_shift» ≡ 12
-  pub pages : headerAt s .pages ≡ pagesIn w s
-
-pub rule1-says : (w : ℕ) (s : List ℕ) → rule1 w s ≡ true → Rule1 w s
-unfolding rule1
-rule1-says w s e =
-    let x = each-of _ e in
-    record {
-      some = leb-true _ _ (x .0);
-      few = leb-true _ _ (x .1 .0);
-      edition = eqb-true _ _ (x .1 .1 .0);
-      min-shift = eqb-true _ _ (x .1 .1 .1 .0);
-      page-shift = eqb-true _ _ (x .1 .1 .1 .1 .0);
-      pages = eqb-true _ _ (x .1 .1 .1 .1 .1 .0);
-    }
-
-pub rule1-holds : (w : ℕ) (s : List ℕ) → Rule1 w s → rule1 w s ≡ true
-unfolding rule1
-rule1-holds w s R =
-    all-of _ (
-      le-leb _ _ (R .some),
-      (
-        le-leb _ _ (R .few),
-        (eq-eqb _ _ (R .edition), (eq-eqb _ _ (R .min-shift), (eq-eqb _ _ (R .page-shift), (eq-eqb _ _ (R .pages), tt)))),
-      ),
-    )
 
 -- ---- the records that a pool shows, painted over it
 

@@ -24,12 +24,12 @@ use Rattle.image.specs.Update.{setFree, setAllLinks}
 use Rattle.lists.specs.Links.{between}
 use Rattle.lists.specs.Nodes.{firstIn, unlink, put}
 use Rattle.rules.specs.Drawn.{starts, pageLinks}
-use Rattle.rules.proofs.Runs.{mem-start, starts-once}
+use Rattle.rules.proofs.Runs.{mem-start, starts-once, start-mem}
 use Rattle.shows.specs.Shows.{Unlisted, ShowsOn, ShowsLinks}
 use Rattle.extents.specs.Extents.{plain}
 use Rattle.freeruns.specs.OnImage.{backOn, cutOn, frontOn, takenOn}
 use Rattle.freeruns.specs.Scene.{Scene}
-use Rattle.freeruns.proofs.Starts.{start-mem, starts-carve}
+use Rattle.freeruns.proofs.Starts.{starts-carve}
 use Rattle.freeruns.proofs.Shown.{body, RunsShown, start-once, start-free, busy-start, within, runs-shown, listed-kept, shows-runs}
 use Rattle.freeruns.proofs.Surgery.{Kept, kept-both, kept-unlink, kept-put, kept-back, back-at, back-off, back-first, Heads, heads-kept, Clear, clear, shown-kept, left-off, left-shown, replaced, put-list, put-off-list, put-new, put-head}
 

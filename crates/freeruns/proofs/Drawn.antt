@@ -22,8 +22,8 @@ use Rattle.model.proofs.Table.{in-table, taken-ok}
 use Rattle.model.proofs.Lists.{open-is}
 use Rattle.model.proofs.AllocRun.{run-well}
 use Rattle.model.proofs.FreeRun.{released-well}
-use Rattle.image.specs.Image.{Image, paint}
-use Rattle.image.proofs.Paint.{Same, paint-ext}
+use Rattle.image.specs.Image.{Image, paint, Same}
+use Rattle.image.proofs.Paint.{paint-ext}
 use Rattle.rules.specs.Bytes.{pagesIn}
 use Rattle.rules.specs.Rules.{freeIn}
 use Rattle.rules.specs.Drawn.{stateImage}

@@ -27,12 +27,11 @@ use Rattle.image.proofs.Fits.{Fits, header-fits}
 use Rattle.lists.specs.Nodes.{head, firstIn}
 use Rattle.lists.proofs.Laws.{next-page, next-head}
 use Rattle.rules.specs.Drawn.{starts}
-use Rattle.rules.proofs.Runs.{starts-once}
+use Rattle.rules.proofs.Runs.{starts-once, start-mem}
 use Rattle.shows.specs.Shows.{ShowsLinks}
 use Rattle.extents.specs.Extents.{fitFrom, fitIn}
 use Rattle.freeruns.specs.OnImage.{startOr}
 use Rattle.freeruns.specs.Scene.{Scene}
-use Rattle.freeruns.proofs.Starts.{start-mem}
 use Rattle.freeruns.proofs.Shown.{RunsShown, start-free, runs-shown}
 
 -- a walk along a list of runs, with fuel for all of them

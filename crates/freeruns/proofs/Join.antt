@@ -25,13 +25,13 @@ use Rattle.image.specs.Image.{Image}
 use Rattle.image.specs.Update.{setFree}
 use Rattle.lists.specs.Nodes.{firstIn}
 use Rattle.rules.specs.Drawn.{starts}
-use Rattle.rules.proofs.Runs.{mem-start}
+use Rattle.rules.proofs.Runs.{mem-start, start-mem}
 use Rattle.shows.specs.Shows.{ShowsOn, ShowsLinks}
 use Rattle.extents.specs.Extents.{plain}
 use Rattle.coalesce.specs.Release.{oneOf}
 use Rattle.freeruns.specs.OnImage.{fillOn, backOn, dropOn, joinedOn, joinOn, releasedOn}
 use Rattle.freeruns.specs.Scene.{Scene}
-use Rattle.freeruns.proofs.Starts.{start-mem, keep-every, keep-both, starts-keep}
+use Rattle.freeruns.proofs.Starts.{keep-every, keep-both, starts-keep}
 use Rattle.freeruns.proofs.Shown.{body, RunsShown, start-once, end-once, busy-start, runs-shown, shows-runs}
 use Rattle.freeruns.proofs.Surgery.{Kept, kept-both, kept-links, kept-unlink, kept-back, kept-push, back-at, back-off, back-first, Heads, Clear, clear, clear-sub, shown-kept, near-next, near-prev, near-first, left-off, left-shown, fronted, push-list, push-off-list, push-new, push-head}
 

@@ -25,10 +25,9 @@ use Rattle.lists.specs.Links.{between}
 use Rattle.lists.specs.Nodes.{head, firstIn, nextOf, prevOf, Listed}
 use Rattle.lists.proofs.Laws.{next-page, next-head}
 use Rattle.rules.specs.Drawn.{starts, onList, backLink, freeLinks, pageLinks}
-use Rattle.rules.proofs.Runs.{mem-start, inner-start}
+use Rattle.rules.proofs.Runs.{mem-start, inner-start, start-mem}
 use Rattle.shows.specs.Shows.{Unlisted, ShowsOn, ShowsLinks}
 use Rattle.extents.specs.Extents.{plain}
-use Rattle.freeruns.proofs.Starts.{start-mem}
 use Rattle.freeruns.specs.Scene.{Scene}
 
 -- a page of run x but its first: the last one leads back

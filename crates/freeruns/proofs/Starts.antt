@@ -14,10 +14,7 @@ use Rattle.model.specs.State.{Run}
 use Rattle.model.specs.Runs.{fit, cutFront, carve}
 use Rattle.model.proofs.Runs.{fit-found}
 use Rattle.rules.specs.Drawn.{starts}
-
-pub start-mem : (rs : List Run) (r : Run) → Mem r rs → Mem (r .start) (starts rs)
-start-mem (x ∷ rs) r (inl e) = inl (ap (λ (y : Run). y .start) e)
-start-mem (x ∷ rs) r (inr m) = inr (start-mem rs r m)
+use Rattle.rules.proofs.Runs.{start-mem}
 
 pub keep-every : {A : Type 0} (q : A → Bool) (xs : List A) → ((x : A) → Mem x xs → q x ≡ true) → keep q xs ≡ xs
 keep-every q [] e = refl

@@ -22,9 +22,8 @@ use Rattle.lists.specs.Links.{between}
 use Rattle.lists.specs.Nodes.{head, firstIn, Listed, putFirst, putNext, unlink, push, put}
 use Rattle.lists.proofs.Laws.{next-page, next-head, unlink-listed, push-listed, put-listed, unlink-off, push-off, put-off, unlink-relinked, push-relinked, put-relinked}
 use Rattle.rules.specs.Drawn.{starts}
-use Rattle.rules.proofs.Runs.{mem-start, starts-once}
+use Rattle.rules.proofs.Runs.{mem-start, starts-once, start-mem}
 use Rattle.extents.specs.Extents.{plain}
-use Rattle.freeruns.proofs.Starts.{start-mem}
 use Rattle.freeruns.specs.OnImage.{backOn}
 use Rattle.freeruns.proofs.Shown.{RunsShown, within, listed-kept}
 

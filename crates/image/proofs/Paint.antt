@@ -18,18 +18,10 @@ use Rattle.records.specs.Header.{packHeader, unpackHeader, headerAt, withHeader
 use Rattle.records.specs.Class.{packCounts, packTally, classAt, withClass}
 use Rattle.records.specs.Page.{packLinks, unpackLinks, linksAt, withLinks}
 use Rattle.records.proofs.Laws.{HeaderFits, ClassFits, LinksFit, unpack-pack-header, unpack-pack-class, unpack-pack-links}
-use Rattle.image.specs.Image.{Image, headerOf, writeAt, paint}
+use Rattle.image.specs.Image.{Image, headerOf, writeAt, paint, Same}
 use Rattle.image.specs.Update.{setFree, setFirstRun, setClass, setMap, setLinks}
 use Rattle.image.proofs.Places.{class-apart, counts-tally, class-below}
 use Rattle.image.proofs.Write.{length-write, write-ext, byte-past, byte-kept, set-past, word-past, set-write, word-write}
-
--- two images show the same for P pages
-pub record Same (P : ℕ) (I J : Image) : Type 0 where
-  pub free-pages : I .freePages ≡ J .freePages
-  pub first-run : I .firstRun ≡ J .firstRun
-  pub class : (c : ℕ) → c < 9 → I .class c ≡ J .class c
-  pub map : (p : ℕ) → p < P → I .map p ≡ J .map p
-  pub links : (p : ℕ) → p < P → I .links p ≡ J .links p
 
 -- a function of one changed place
 over : {A : Type 0} (g : A → ℕ) (f : ℕ → A) (p : ℕ) (x : A) (q : ℕ) → upd (λ j. g (f j)) p (g x) q ≡ g (upd f p x q)

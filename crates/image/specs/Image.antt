@@ -1,7 +1,8 @@
 -- The records of a pool as functions, one for each kind of record, and the bytes that they make. Assumes nothing.
 -- Everything above speaks of an image; words and bytes stay in this file's `paint`.
+use mathlib.Core.Path.{_≡_}
 use mathlib.Core.List.{List}
-use Prim.Native.Nat.{ℕ, zero, suc, _-_}
+use Prim.Native.Nat.{ℕ, zero, suc, _-_, _<_}
 use Rattle.words.specs.Word.{setWord}
 use Rattle.records.specs.Layout.{countsPlace, tallyPlace, mapPlace, linksPlace}
 use Rattle.records.specs.declared.Header.{Header}
@@ -44,3 +45,11 @@ paint w P I s =
     (writeAt (tallyPlace w) 9 (λ c. packTally (I .class c))
     (writeAt (countsPlace w) 9 (λ c. packCounts (I .class c))
     (setWord s 0 (packHeader (headerOf w P (I .freePages) (I .firstRun)))))))
+
+-- two images show the same for P pages
+pub record Same (P : ℕ) (I J : Image) : Type 0 where
+  pub free-pages : I .freePages ≡ J .freePages
+  pub first-run : I .firstRun ≡ J .firstRun
+  pub class : (c : ℕ) → c < 9 → I .class c ≡ J .class c
+  pub map : (p : ℕ) → p < P → I .map p ≡ J .map p
+  pub links : (p : ℕ) → p < P → I .links p ≡ J .links p

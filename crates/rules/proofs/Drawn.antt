@@ -7,6 +7,7 @@ use Prim.Native.Nat.{ℕ, zero, suc, _+_, _-_, _≤_, _<_}
 use native.Mathlib.Omega.{arith}
 use lib.Dec.{ltb}
 use borrow.Author.Tests.{eq-eqb, ne-eqb, lt-ltb, le-ltb}
+use Rattle.image.specs.Image.{Same}
 use Rattle.base.specs.Tests.{pick}
 use Rattle.base.specs.Lists.{Mem}
 use Rattle.base.specs.Links.{headOr, nextIn, prevFrom}
@@ -18,7 +19,6 @@ use Rattle.model.specs.State.{Page, Run, Tally, marksOf}
 use Rattle.model.specs.Runs.{startsAt, endsAt}
 use Rattle.model.specs.View.{usedOf, shown}
 use Rattle.bitmaps.specs.Bitmap.{bitsOf}
-use Rattle.image.proofs.Paint.{Same}
 use Rattle.rules.specs.Fields.{Fields, kind, class, run, next, prev, map, first, pageAt}
 use Rattle.rules.specs.Read.{openAt, headsOf, listOf, withLengths, tallyOf, readFields}
 use Rattle.rules.specs.Plain.{ClassPage, Rule2, Lists, Head, Open}

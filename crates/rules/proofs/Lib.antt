@@ -1,6 +1,7 @@
 pub mod Linked
 pub mod Pages
 pub mod Agree
+pub mod Rule1
 pub mod Rule2
 pub mod Rules
 pub mod Well

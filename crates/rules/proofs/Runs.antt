@@ -14,7 +14,7 @@ use Rattle.model.proofs.Runs.{same-run, Keyed, keyed, starts-at}
 use Rattle.rules.specs.Read.{withLengths}
 use Rattle.rules.specs.Drawn.{starts}
 
-start-mem : (rs : List Run) (r : Run) → Mem r rs → Mem (r .start) (starts rs)
+pub start-mem : (rs : List Run) (r : Run) → Mem r rs → Mem (r .start) (starts rs)
 start-mem (x ∷ rs) r (inl e) = inl (ap (λ (y : Run). y .start) e)
 start-mem (x ∷ rs) r (inr m) = inr (start-mem rs r m)
 

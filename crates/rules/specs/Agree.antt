@@ -2,10 +2,10 @@
 use mathlib.Core.Path.{_≡_}
 use mathlib.Core.Bool.{true, false}
 use Prim.Native.Nat.{ℕ, _-_, _%_, _^_, _≤_, _<_}
+use Rattle.image.specs.Image.{Same}
 use Rattle.model.specs.Classes.{chunks}
 use Rattle.model.specs.State.{most}
 use Rattle.bitmaps.specs.Bitmap.{bitsOf}
-use Rattle.image.proofs.Paint.{Same}
 use Rattle.rules.specs.Fields.{Fields, kind, class, map}
 use Rattle.rules.specs.Rules.{rule2, rule3, rule4, rule5, rule6}
 

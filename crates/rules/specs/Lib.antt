@@ -1,7 +1,7 @@
 pub mod Fields
 pub mod Read
 pub mod Rules
-pub mod Plain
 pub mod Agree
 pub mod Drawn
 pub mod Bytes
+pub mod Plain

@@ -1,16 +1,30 @@
--- Rules 2 to 6 of document 01 on the fields v of n pages, in plain form. Assumes nothing.
--- `Rules.antt` has them as tests; `rule2-iff` (proofs/Rule2.antt) to `rule6-iff` (proofs/Rules.antt) say that both are the same.
+-- Rules 1 to 6 of document 01 in plain form: rule 1 on the bytes s, the others on the fields v of n pages. Assumes nothing.
+-- `Bytes.antt` and `Rules.antt` have them as tests; `rule1-iff` (proofs/Rule1.antt), `rule2-iff` (proofs/Rule2.antt) to `rule6-iff` (proofs/Rules.antt)
+-- say that both are the same.
 use mathlib.Core.Path.{_≡_}
 use mathlib.Core.Bool.{Bool, true, false, _&&_}
 use mathlib.Core.List.{List}
 use Prim.Native.Nat.{ℕ, _+_, _-_, _*_, _%_, _^_, _≤_, _<_}
 use lib.Dec.{eqb, leb}
+use lib.ListN.{length}
 use Rattle.base.specs.Count.{sum, count}
 use Rattle.base.specs.Lists.{Mem, NoDup}
 use Rattle.base.specs.Links.{headOr, nextIn, prevFrom}
 use Rattle.records.specs.Layout.{noPage}
-use Rattle.model.specs.Classes.{chunks, own, counted}
+use Rattle.records.specs.Header.{headerAt}
+use Rattle.model.specs.Classes.{chunks, own, counted, maxPages}
 use Rattle.rules.specs.Fields.{Fields, kind, class, run, next, prev, map, first}
+use Rattle.rules.specs.Bytes.{pagesIn}
+
+-- ---- rule 1: the length gives a P from 1 to the largest; the header's constants and P agree
+
+pub record Rule1 (w : ℕ) (s : List ℕ) : Type 0 where
+  pub some : 8 + 72 * w + 4112 ≤ length s
+  pub few : pagesIn w s ≤ maxPages
+  pub edition : headerAt s .edition ≡ w - 1
+  pub min-shift : headerAt s .«min_shift» ≡ 3
+  pub page-shift : headerAt s .«page_shift» ≡ 12
+  pub pages : headerAt s .pages ≡ pagesIn w s
 
 -- ---- rule 2: the pages divide into free runs, taken runs and class pages; no two free runs touch; the maps' own chunks are marked;
 -- fields are as described, but for next and previous in kinds 1 and 2

@@ -1,30 +1,19 @@
 -- A loop that tests each number below n, and the tests that let control pass. Assumes nothing.
 use mathlib.Core.Path.{_≡_, refl, sym, _∙_}
-use mathlib.Core.Logic.{_⊎_, inl, inr, _≢_}
 use mathlib.Core.Bool.{Bool, true, false, not}
-use Prim.Native.Nat.{ℕ, zero, suc, _+_, _≤_, _<_}
+use Prim.Native.Nat.{ℕ, _+_, _≤_, _<_}
 use native.Mathlib.Numerals.{add-one}
 use native.Mathlib.Omega.{arith}
 use borrow.Author.Needs.{needs}
 use borrow.Author.Tests.{not-true, not-false}
 use Rattle.base.specs.Tests.{pick, allBelow}
-use Rattle.base.proofs.Tests.{both-true}
-use Rattle.base.proofs.Cases.{eq?}
+use Rattle.base.proofs.AllBelow.{all-at}
 
 -- a test, by a call's result u, that let control pass
 pub passed : (b u : Bool) → u ≡ b → not u ≡ false → b ≡ true
 passed b u e f = sym e ∙ not-false u f
 
 module _ (t : ℕ → Bool) where
-  pub all-at : (n : ℕ) → allBelow t n ≡ true → (i : ℕ) → i < n → t i ≡ true
-  unfolding allBelow
-  all-at zero e i h = absurd (omega arith)
-  all-at (suc n) e i h = let x = both-true (t n) (allBelow t n) e in go (x .0) (all-at n (x .1) i) (eq? i n)
-    where
-      go : t n ≡ true → (i < n → t i ≡ true) → (i ≡ n) ⊎ (i ≢ n) → t i ≡ true
-      go x ih (inl d) = rw d x
-      go x ih (inr d) = ih (omega arith)
-
   pub all-none : allBelow t 0 ≡ true
   unfolding allBelow
   all-none = refl
@@ -38,7 +27,7 @@ module _ (t : ℕ → Bool) where
     where
       go : (b : Bool) → allBelow t n ≡ b → false ≡ b
       go false x = refl
-      go true x = sym (not-true u f) ∙ e ∙ all-at n x p h
+      go true x = sym (not-true u f) ∙ e ∙ all-at t n x p h
 
   pub all-done : (n p : ℕ) → p ≤ n → n ≤ p → allBelow t p ≡ true → true ≡ allBelow t n
   all-done n p h k a = let e : n ≡ p = omega arith in sym (rw e a)

@@ -17,7 +17,7 @@ use Rattle.rules.specs.Fields.{Fields, kind, class, pageAt}
 use Rattle.rules.specs.Read.{isHead, openAt}
 use Rattle.rules.specs.Rules.{rule2At, rule2}
 use Rattle.rules.specs.Bytes.{pagesIn, fieldsOf}
-use Rattle.tests.proofs.Loops.{all-at}
+use Rattle.base.proofs.AllBelow.{all-at}
 use Rattle.tally.specs.Tally.{onesAt}
 use Rattle.tally.proofs.Shares.{page-is}
 use Rattle.tally.proofs.Pass.{Slab, kind-of, slab-ones}
