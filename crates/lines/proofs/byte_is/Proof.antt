@@ -6,7 +6,7 @@ get-byte-requires : tie.Need-get-byte-requires
 get-byte-requires c κs = search needs
 
 returns : tie.Need-returns
-returns c = cc
+returns c = rw (c .get-byte .ensures)
 
 pub byte-is-spec : {M : Type 1} → statement M
 byte-is-spec = tie.close (tie.spec get-byte-requires returns)

@@ -23,7 +23,9 @@ all5-requires c κs = search needs
 
 returns : tie.Need-returns
 unfolding begins
-returns c = cc
+returns c =
+    rw (c .before .byte-is5 .ensures, c .before .before .byte-is4 .ensures, c .before .before .before .byte-is3 .ensures, c .before .before .before .before .byte-is2 .ensures, c .before .before .before .before .before .byte-is .ensures)
+    at (c .all5 .ensures)
 
 pub starts-with-spec : {M : Type 1} → statement M
 starts-with-spec =

@@ -1,4 +1,7 @@
 use borrow.Author.Needs.{needs}
+use mathlib.Core.Path.{_∙_, ap}
+use Prim.Native.Nat.{ℕ}
+use lib.Dec.{leb}
 use Rattle.numerals.proofs.Values.{capped-fits}
 use Rattle.numerals.proofs.in_range.Statement.{statement}
 use Rattle.numerals.proofs.in_range.Tie as tie
@@ -7,7 +10,7 @@ value-requires : tie.Need-value-requires
 value-requires c κs = search needs
 
 returns : tie.Need-returns
-returns c = cc (capped-fits _)
+returns c = ap (λ (v : ℕ). leb v 4294967295) (c .value .ensures .0) ∙ capped-fits _
 
 pub in-range-spec : {M : Type 1} → statement M
 in-range-spec = tie.close (tie.spec value-requires returns)

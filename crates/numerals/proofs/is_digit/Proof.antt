@@ -8,7 +8,7 @@ both-requires c κs = search needs
 
 returns : tie.Need-returns
 unfolding isDigit
-returns c = cc
+returns c = c .both .ensures
 
 pub is-digit-spec : {M : Type 1} → statement M
 is-digit-spec = tie.close (tie.spec both-requires returns)

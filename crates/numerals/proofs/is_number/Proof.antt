@@ -17,7 +17,8 @@ all4-requires c κs = search needs
 
 returns : tie.Need-returns
 unfolding isNumber
-returns c = cc
+returns c =
+    rw (c .before .in-range .ensures, c .before .before .zero-alone .ensures, c .before .before .before .all-digits .ensures) at (c .all4 .ensures)
 
 pub is-number-spec : {M : Type 1} → statement M
 is-number-spec =

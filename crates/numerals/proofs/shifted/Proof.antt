@@ -15,7 +15,7 @@ cap-requires : tie.Need-cap-requires
 cap-requires c κs = search needs
 
 returns : tie.Need-returns
-returns c = (cc, search needs)
+returns c = (rw (c .before .minus .ensures) at (c .cap .ensures .0), search needs)
 
 pub shifted-spec : {M : Type 1} → statement M
 shifted-spec = tie.close (tie.spec mul-cap minus-requires add-cap cap-requires returns)

@@ -9,7 +9,7 @@ implies-requires : tie.Need-implies-requires
 implies-requires c κs = search needs
 
 returns : tie.Need-returns
-returns c = cc
+returns c = rw (c .before .get-byte .ensures) at (c .implies .ensures)
 
 pub zero-alone-spec : {M : Type 1} → statement M
 zero-alone-spec = tie.close (tie.spec get-byte-requires implies-requires returns)

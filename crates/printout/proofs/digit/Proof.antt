@@ -15,7 +15,7 @@ cast-result : tie.Need-cast-result
 cast-result c = search needs
 
 returns : tie.Need-returns
-returns c = cc
+returns c = rw (c .ten-to .ensures .0)
 
 pub digit-spec : {M : Type 1} → statement M
 digit-spec = tie.close (tie.spec ten-to-requires div-result add-result cast-result returns)
