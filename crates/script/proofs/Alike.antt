@@ -23,8 +23,8 @@ use Rattle.lines.specs.Lines.{lines, request}
 use Rattle.printout.specs.Text.{line, written}
 use Rattle.replies.specs.Replies.{poolWord, outcomeLine, formatLine, replyLine}
 use Rattle.summary.specs.Summary.{freeRuns, summaryOf}
-use Rattle.script.specs.Script.{pages, reply, next, replies, final, summary, session, transcript}
-use Rattle.script.specs.Served.{replyOn, nextOn, repliesOn, finalOn, textOn, poolOn, sessionOn, printoutOn}
+use Rattle.script.specs.Script.{pages, reply, next, replies, final, summary, exchange, transcript}
+use Rattle.script.specs.Served.{replyOn, nextOn, repliesOn, finalOn, textOn, poolOn, exchangeOn, printoutOn}
 
 -- ---- the lines
 
@@ -78,9 +78,9 @@ summary-alike : (s : List ℕ) (m : State) → Shows s m → summaryOf 2 s ≡ s
 unfolding summaryOf summary
 summary-alike s m S = rw (← S .state) (rw (← runs-alike s, ← free-alike s (S .sound)))
 
-session-alike : (s : List ℕ) (m : State) → Shows s m → (ls : List (List ℕ)) → sessionOn s ls ≡ session m ls
-unfolding sessionOn session textOn poolOn
-session-alike s m S ls = rw (replies-alike s m S ls, summary-alike _ _ (final-alike s m S ls))
+exchange-alike : (s : List ℕ) (m : State) → Shows s m → (ls : List (List ℕ)) → exchangeOn s ls ≡ exchange m ls
+unfolding exchangeOn exchange textOn poolOn
+exchange-alike s m S ls = rw (replies-alike s m S ls, summary-alike _ _ (final-alike s m S ls))
 
 -- ---- a fresh pool
 
@@ -103,7 +103,7 @@ module _ (s : List ℕ) (b : Bytes s) (l : length s ≡ 49496) where
 
   pub printout-alike : (input : List ℕ) → printoutOn s input ≡ transcript input
   unfolding printoutOn transcript
-  printout-alike input = rw (first-line, session-alike _ _ shows-fresh (lines input))
+  printout-alike input = rw (first-line, exchange-alike _ _ shows-fresh (lines input))
 
   pub transcript-does : (u v input : List ℕ) (r : ℕ) → (r ≡ length (printoutOn s input)) × (v ≡ written u 0 (printoutOn s input)) →
       (r ≡ length (transcript input)) × (v ≡ written u 0 (transcript input))

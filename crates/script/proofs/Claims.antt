@@ -15,10 +15,10 @@ use Rattle.model.specs.Calls.{fresh}
 use Rattle.lines.specs.Lines.{lines, request}
 use Rattle.printout.specs.Text.{line, written, Prints}
 use Rattle.replies.specs.Replies.{poolWord, noWord, refusalLine}
-use Rattle.script.specs.Script.{longest, pages, reply, next, replies, final, session, transcript, printout}
+use Rattle.script.specs.Script.{longest, pages, reply, next, replies, final, exchange, transcript, printout}
 use Rattle.script.specs.Claim.{Claims}
 use Rattle.script.proofs.Numbers.{reads-back}
-use Rattle.script.proofs.Room.{line-few, session-fits}
+use Rattle.script.proofs.Room.{line-few, exchange-fits}
 
 line-by-line : (m : State) (ls : List (List ℕ)) (k : ℕ) → k < length ls → getD (replies m ls) k [] ≡ reply (final m (take k ls)) (request (getD ls k []))
 line-by-line m [] k h = absurd (omega arith)
@@ -40,8 +40,8 @@ fits input = go (leb (length input) longest) refl
     go : (b : Bool) → leb (length input) longest ≡ b →
         length (pick b (transcript input) (refusalLine ScriptTooLong)) ≤ 65536
     go true e =
-        let fresh-session : List ℕ = session (fresh pages) (lines input) in
-        omega (arith, length-append (line poolWord pages) fresh-session, line-few poolWord pages, session-fits (fresh pages) input, leb-true (length input) longest e)
+        let fresh-exchange : List ℕ = exchange (fresh pages) (lines input) in
+        omega (arith, length-append (line poolWord pages) fresh-exchange, line-few poolWord pages, exchange-fits (fresh pages) input, leb-true (length input) longest e)
     go false e = omega (arith, refusal-few)
 
 pub claims : Claims

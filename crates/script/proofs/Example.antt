@@ -15,9 +15,9 @@ use Rattle.lines.specs.Lines.{begins, callWith, request}
 use Rattle.printout.specs.Text.{tenTo, digits, manyPlaces, places, decimal, phrase, line}
 use Rattle.replies.specs.Replies.{refusalLine, outcomeLine, allocLine, freeLine, replyLine}
 use Rattle.summary.specs.Summary.{summaryLine}
-use Rattle.script.specs.Script.{reply, next, summary, session, transcript, printout}
+use Rattle.script.specs.Script.{reply, next, summary, exchange, transcript, printout}
 use Rattle.script.specs.Example.{WholeCase}
 
 pub whole-case : WholeCase
-unfolding pick allOf allBelow sum count chunk chunks own lowest hasClear hasTaken newMarks startsChunk classOf pagesFor needOf least any upd fill cutFront clearOf joined joinRuns most raise asked failed tallied refuse noRoom outside notTaken notAStart fresh allocRun cutPage markChunk allocChunk allocFor alloc release others relisted keepPage dropPage freeChunk freeAt free step freeIn isDigit valueOf isNumber begins callWith request tenTo digits manyPlaces places decimal phrase line refusalLine outcomeLine allocLine freeLine replyLine summaryLine reply next summary session transcript printout
+unfolding pick allOf allBelow sum count chunk chunks own lowest hasClear hasTaken newMarks startsChunk classOf pagesFor needOf least any upd fill cutFront clearOf joined joinRuns most raise asked failed tallied refuse noRoom outside notTaken notAStart fresh allocRun cutPage markChunk allocChunk allocFor alloc release others relisted keepPage dropPage freeChunk freeAt free step freeIn isDigit valueOf isNumber begins callWith request tenTo digits manyPlaces places decimal phrase line refusalLine outcomeLine allocLine freeLine replyLine summaryLine reply next summary exchange transcript printout
 whole-case = refl

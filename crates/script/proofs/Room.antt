@@ -21,7 +21,7 @@ use Rattle.printout.proofs.Digits.{decimal-few}
 use Rattle.replies.specs.Replies.{poolWord, atWord, noWord, backLine, refusalLine, outcomeLine, formatLine, allocLine, freeLine, replyLine}
 use Rattle.summary.specs.Summary.{freeWord, runsWord, summaryLine}
 use Rattle.rules.specs.Rules.{freeIn}
-use Rattle.script.specs.Script.{reply, replies, next, final, joined, summary, session}
+use Rattle.script.specs.Script.{reply, replies, next, final, joined, summary, exchange}
 use Rattle.script.specs.Served.{replyOn, nextOn, repliesOn, textOn}
 
 pub phrase-few : (word : List ℕ) (v : ℕ) → length (phrase word v) ≤ length word + 10
@@ -123,9 +123,9 @@ summary-few m =
     let runs : ℕ = length (m .runs) in
     omega (arith, length-append (phrase freeWord free) (line runsWord runs), phrase-few freeWord free, line-few runsWord runs)
 
-pub session-fits : (m : State) (input : List ℕ) → length (session m (lines input)) ≤ 5 * (length input + 1) + 32
-unfolding session
-session-fits m input =
+pub exchange-fits : (m : State) (input : List ℕ) → length (exchange m (lines input)) ≤ 5 * (length input + 1) + 32
+unfolding exchange
+exchange-fits m input =
     omega (
       arith,
       length-append (joined (replies m (lines input))) (summary (final m (lines input))),

@@ -16,7 +16,7 @@ use Rattle.printout.proofs.Writing.{written-none, written-append}
 use Rattle.replies.specs.Replies.{refusalLine, formatLine, allocLine, freeLine, replyLine}
 use Rattle.summary.specs.Summary.{summaryOf}
 use Rattle.script.specs.Script.{joined}
-use Rattle.script.specs.Served.{replyOn, nextOn, Serves, repliesOn, textOn, poolOn, sessionOn, printoutOn}
+use Rattle.script.specs.Served.{replyOn, nextOn, Serves, repliesOn, textOn, poolOn, exchangeOn, printoutOn}
 use Rattle.script.proofs.Room.{format-few}
 
 -- ---- one line
@@ -84,7 +84,7 @@ pub all-do : (s u v x y input : List ℕ) (a b r : ℕ) (f t : List ℕ) →
     (b ≡ a + length (textOn f (lines input))) × (x ≡ written v a (textOn f (lines input))) × (t ≡ poolOn f (lines input)) × (b ≤ a + 5 * (length input + 1)) →
     (r ≡ b + length (summaryOf 2 t)) × (y ≡ written x b (summaryOf 2 t)) →
     (r ≡ length (printoutOn s input)) × (y ≡ written u 0 (printoutOn s input))
-unfolding printoutOn sessionOn
+unfolding printoutOn exchangeOn
 all-do s u v x y input a b r f t (p, q, g, _) (p′, q′, g′, _) (p″, q″) =
     let first : List ℕ = formatLine (formatOutcome 2 (length s)) in
     let text : List ℕ = textOn (formatted 2 s) (lines input) in

@@ -47,11 +47,11 @@ joined (l ∷ ls) = l ++ joined ls
 unfoldable pub summary : State → List ℕ
 summary m = summaryLine (freeIn (m .page) (m .size)) (length (m .runs))
 
-unfoldable pub session : State → List (List ℕ) → List ℕ
-session m ls = joined (replies m ls) ++ summary (final m ls)
+unfoldable pub exchange : State → List (List ℕ) → List ℕ
+exchange m ls = joined (replies m ls) ++ summary (final m ls)
 
 unfoldable pub transcript : List ℕ → List ℕ
-transcript input = line poolWord pages ++ session (fresh pages) (lines input)
+transcript input = line poolWord pages ++ exchange (fresh pages) (lines input)
 
 -- the whole printout
 unfoldable pub printout : List ℕ → List ℕ

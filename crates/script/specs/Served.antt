@@ -42,8 +42,8 @@ unfoldable pub poolOn : List ℕ → List (List ℕ) → List ℕ
 poolOn s ls = finalOn s ls
 
 -- .. and with the first line and the last
-unfoldable pub sessionOn : List ℕ → List (List ℕ) → List ℕ
-sessionOn s ls = textOn s ls ++ summaryOf 2 (poolOn s ls)
+unfoldable pub exchangeOn : List ℕ → List (List ℕ) → List ℕ
+exchangeOn s ls = textOn s ls ++ summaryOf 2 (poolOn s ls)
 
 unfoldable pub printoutOn : List ℕ → List ℕ → List ℕ
-printoutOn s input = formatLine (formatOutcome 2 (length s)) ++ sessionOn (formatted 2 s) (lines input)
+printoutOn s input = formatLine (formatOutcome 2 (length s)) ++ exchangeOn (formatted 2 s) (lines input)
