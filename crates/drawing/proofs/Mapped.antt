@@ -55,7 +55,7 @@ module _ (from : ℕ) (m : State) where
 
     mapped-at : (s : List ℕ) → mapHas (m .page p) j ≡ true → mappedByte from m s x ≡ mapByte (m .page p) j
     unfolding mappedByte pick
-    mapped-at s t = rw (map-at, t, page-of, byte-of)
+    mapped-at s t = rw (map-at, t) (λ i. mapByte (m .page (page-of i)) (byte-of i))
 
 -- ---- the maps written
 

@@ -1,5 +1,5 @@
 -- A run leaves the list of free runs, another takes its place, one comes in front, and records of pages off the list are written. Assumes nothing.
-use mathlib.Core.Path.{_≡_, refl, sym, _∙_, subst}
+use mathlib.Core.Path.{_≡_, refl, sym, ap, _∙_, subst}
 use mathlib.Core.Logic.{_⊎_, inl, inr, _≢_}
 use mathlib.Core.Bool.{Bool, true}
 use mathlib.Core.List.{List, [], _∷_}
@@ -9,6 +9,7 @@ use borrow.Author.Tests.{eq-eqb, ne-eqb, lt-ltb, le-ltb}
 use Rattle.base.specs.Tests.{pick}
 use Rattle.base.specs.Lists.{Mem, NoDup, keep}
 use Rattle.base.specs.Links.{headOr, nextIn, others, replace}
+use Rattle.base.proofs.AllBelow.{pick-yes}
 use Rattle.base.proofs.Cases.{eq?, lt?}
 use Rattle.base.proofs.Functions.{upd-same, upd-other}
 use Rattle.base.proofs.Neighbours.{next-on, prev-on}
@@ -64,8 +65,8 @@ kept-push I p l = record { free-pages = refl; class = refl; map = refl }
 
 module _ (J : Image) (t n : ℕ) where
   pub back-at : 1 < n → backOn J t n .links (t + (n - 1)) ≡ plain 0 0 t
-  unfolding backOn pick
-  back-at h = rw (lt-ltb 1 n h) (upd-same (J .links) (t + (n - 1)) (plain 0 0 t))
+  unfolding backOn
+  back-at h = ap (λ (I : Image). I .links (t + (n - 1))) (pick-yes _ _ _ (lt-ltb 1 n h)) ∙ upd-same (J .links) (t + (n - 1)) (plain 0 0 t)
 
   pub back-off : (q : ℕ) → (1 < n → q ≢ t + (n - 1)) → backOn J t n .links q ≡ J .links q
   unfolding backOn pick

@@ -9,7 +9,7 @@ use Rattle.base.specs.Tests.{pick}
 use Rattle.answers.specs.Outcome.{Outcome, numberOf, granted, refused}
 use Rattle.answers.specs.declared.Refusal.{Refusal}
 use Rattle.answers.specs.declared.Refusal.the-variants.{TooShort, TooLong, NotSound, NoRoom, Outside, NotTaken, NotAStart, Unreadable, ScriptTooLong}
-use Rattle.printout.specs.Text.{line, written, Prints}
+use Rattle.printing.specs.Text.{line, written, Prints}
 use Rattle.replies.specs.Replies.{poolWord, atWord, noWord, backLine, refusalLine, outcomeLine, formatLine, allocLine, freeLine}
 
 refusal-counts : (r : Refusal) → eqb (numberOf r) 0 ≡ false

@@ -6,7 +6,7 @@ use Rattle.base.specs.Tests.{pick}
 use Rattle.answers.specs.Outcome.{Outcome, numberOf}
 use Rattle.answers.specs.declared.Refusal.{Refusal}
 use Rattle.model.specs.Calls.{Call, Alloc, Free}
-use Rattle.printout.specs.Text.{line}
+use Rattle.printing.specs.Text.{line}
 
 -- `pool `, `at `, `no `
 abbrev pub poolWord : List ℕ

@@ -3,13 +3,13 @@ use allocating::Allocated;
 use answers::Refusal;
 use format::Formatted;
 use freeing::Freed;
-use printout::put_line;
-use printout::put_text;
+use printing::put_line;
+use printing::put_text;
 ghost use Prim.Native.Nat.{_≤_};
 ghost use Rattle.format.specs.Format as formats;
 ghost use Rattle.allocating.specs.Allocating as allocs;
 ghost use Rattle.freeing.specs.Freeing as frees;
-ghost use Rattle.printout.specs.Text.{Prints};
+ghost use Rattle.printing.specs.Text.{Prints};
 ghost use Rattle.replies.specs.Replies.{refusalLine, formatLine, allocLine, freeLine};
 
 pub fn put_refusal(out: &mut [u8], n: usize, r: Refusal) -> usize

@@ -20,11 +20,11 @@ use Rattle.drawing.proofs.Laws.{none-broken, claims as laws-of}
 use Rattle.demands.specs.Demands.{Demands}
 use Rattle.demands.proofs.Demands.{all-demands}
 use Rattle.lines.specs.Lines.{lines, request}
-use Rattle.printout.specs.Text.{line, written}
+use Rattle.printing.specs.Text.{line, written}
 use Rattle.replies.specs.Replies.{poolWord, outcomeLine, formatLine, replyLine}
 use Rattle.summary.specs.Summary.{freeRuns, summaryOf}
 use Rattle.script.specs.Script.{pages, reply, next, replies, final, summary, exchange, transcript}
-use Rattle.script.specs.Served.{replyOn, nextOn, repliesOn, finalOn, textOn, poolOn, exchangeOn, printoutOn}
+use Rattle.script.specs.Served.{replyOn, nextOn, repliesOn, finalOn, textOn, exchangeOn, printoutOn}
 
 -- ---- the lines
 
@@ -57,6 +57,7 @@ replies-alike s m S [] = refl
 replies-alike s m S (l ∷ ls) = rw (reply-alike s m S (request l), replies-alike _ _ (next-alike s m S (request l)) ls)
 
 final-alike : (s : List ℕ) (m : State) → Shows s m → (ls : List (List ℕ)) → Shows (finalOn s ls) (final m ls)
+unfolding finalOn
 final-alike s m S [] = S
 final-alike s m S (l ∷ ls) = final-alike _ _ (next-alike s m S (request l)) ls
 
@@ -79,7 +80,7 @@ unfolding summaryOf summary
 summary-alike s m S = rw (← S .state) (rw (← runs-alike s, ← free-alike s (S .sound)))
 
 exchange-alike : (s : List ℕ) (m : State) → Shows s m → (ls : List (List ℕ)) → exchangeOn s ls ≡ exchange m ls
-unfolding exchangeOn exchange textOn poolOn
+unfolding exchangeOn exchange textOn finalOn
 exchange-alike s m S ls = rw (replies-alike s m S ls, summary-alike _ _ (final-alike s m S ls))
 
 -- ---- a fresh pool

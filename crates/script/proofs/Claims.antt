@@ -13,7 +13,7 @@ use Rattle.answers.specs.declared.Refusal.the-variants.{ScriptTooLong}
 use Rattle.model.specs.State.{State}
 use Rattle.model.specs.Calls.{fresh}
 use Rattle.lines.specs.Lines.{lines, request}
-use Rattle.printout.specs.Text.{line, written, Prints}
+use Rattle.printing.specs.Text.{line, written, Prints}
 use Rattle.replies.specs.Replies.{poolWord, noWord, refusalLine}
 use Rattle.script.specs.Script.{longest, pages, reply, next, replies, final, exchange, transcript, printout}
 use Rattle.script.specs.Claim.{Claims}

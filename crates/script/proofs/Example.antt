@@ -12,7 +12,7 @@ use Rattle.model.specs.Calls.{noRoom, outside, notTaken, notAStart, refuse, fre
 use Rattle.rules.specs.Rules.{freeIn}
 use Rattle.numerals.specs.Numeral.{isDigit, valueOf, isNumber}
 use Rattle.lines.specs.Lines.{begins, callWith, request}
-use Rattle.printout.specs.Text.{tenTo, digits, manyPlaces, places, decimal, phrase, line}
+use Rattle.printing.specs.Text.{tenTo, digits, manyPlaces, places, decimal, phrase, line}
 use Rattle.replies.specs.Replies.{refusalLine, outcomeLine, allocLine, freeLine, replyLine}
 use Rattle.summary.specs.Summary.{summaryLine}
 use Rattle.script.specs.Script.{reply, next, summary, exchange, transcript, printout}

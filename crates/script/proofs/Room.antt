@@ -16,8 +16,8 @@ use Rattle.model.specs.Calls.{Call, Alloc, Free, step}
 use Rattle.demands.specs.Calls.{outcome, answered}
 use Rattle.lines.specs.Lines.{before, lines, begins, request}
 use Rattle.lines.proofs.Words.{begins-long}
-use Rattle.printout.specs.Text.{digits, places, decimal, phrase, line}
-use Rattle.printout.proofs.Digits.{decimal-few}
+use Rattle.printing.specs.Text.{digits, places, decimal, phrase, line}
+use Rattle.printing.proofs.Digits.{decimal-few}
 use Rattle.replies.specs.Replies.{poolWord, atWord, noWord, backLine, refusalLine, outcomeLine, formatLine, allocLine, freeLine, replyLine}
 use Rattle.summary.specs.Summary.{freeWord, runsWord, summaryLine}
 use Rattle.rules.specs.Rules.{freeIn}

@@ -11,12 +11,12 @@ use Rattle.model.specs.Calls.{Call, Alloc, Free}
 use Rattle.demands.specs.Calls.{answered, after}
 use Rattle.format.specs.Format.{formatOutcome, formatted}
 use Rattle.lines.specs.Lines.{lines, request}
-use Rattle.printout.specs.Text.{written, Prints}
-use Rattle.printout.proofs.Writing.{written-none, written-append}
+use Rattle.printing.specs.Text.{written, Prints}
+use Rattle.printing.proofs.Writing.{written-none, written-append}
 use Rattle.replies.specs.Replies.{refusalLine, formatLine, allocLine, freeLine, replyLine}
 use Rattle.summary.specs.Summary.{summaryOf}
 use Rattle.script.specs.Script.{joined}
-use Rattle.script.specs.Served.{replyOn, nextOn, Serves, repliesOn, textOn, poolOn, exchangeOn, printoutOn}
+use Rattle.script.specs.Served.{replyOn, nextOn, Serves, repliesOn, finalOn, textOn, exchangeOn, printoutOn}
 use Rattle.script.proofs.Room.{format-few}
 
 -- ---- one line
@@ -47,7 +47,7 @@ abbrev pub Left : List ℕ → List ℕ → ℕ → List (List ℕ) → List ℕ
 Left s u n ls s₀ u₀ n₀ ls₀ =
     (n + length (textOn s ls) ≡ n₀ + length (textOn s₀ ls₀)) ×
     (written u n (textOn s ls) ≡ written u₀ n₀ (textOn s₀ ls₀)) ×
-    (poolOn s ls ≡ poolOn s₀ ls₀)
+    (finalOn s ls ≡ finalOn s₀ ls₀)
 
 module _ (s₀ u₀ : List ℕ) (n₀ : ℕ) (ls₀ : List (List ℕ)) where
   pub left-all : Left s₀ u₀ n₀ ls₀ s₀ u₀ n₀ ls₀
@@ -59,7 +59,7 @@ module _ (s₀ u₀ : List ℕ) (n₀ : ℕ) (ls₀ : List (List ℕ)) where
 
     pub left-more : (t v : List ℕ) (m : ℕ) (l : List ℕ) (ls : List (List ℕ)) → Serves s t u v n m (request l) →
         Left s u n (l ∷ ls) s₀ u₀ n₀ ls₀ → Left t v m ls s₀ u₀ n₀ ls₀
-    unfolding textOn poolOn
+    unfolding textOn finalOn
     left-more t v m l ls (e, f, g) (a, b, c) =
         let this : List ℕ = replyOn s (request l) in
         let rest : List ℕ = joined (repliesOn (nextOn s (request l)) ls) in
@@ -69,8 +69,8 @@ module _ (s₀ u₀ : List ℕ) (n₀ : ℕ) (ls₀ : List (List ℕ)) where
           c,
         )
 
-    pub left-none : Left s u n [] s₀ u₀ n₀ ls₀ → (n ≡ n₀ + length (textOn s₀ ls₀)) × (u ≡ written u₀ n₀ (textOn s₀ ls₀)) × (s ≡ poolOn s₀ ls₀)
-    unfolding textOn poolOn
+    pub left-none : Left s u n [] s₀ u₀ n₀ ls₀ → (n ≡ n₀ + length (textOn s₀ ls₀)) × (u ≡ written u₀ n₀ (textOn s₀ ls₀)) × (s ≡ finalOn s₀ ls₀)
+    unfolding textOn finalOn
     left-none (a, b, c) = (omega (arith, a), sym (written-none u n) ∙ b, c)
 
 -- ---- the first line, the lines, the last line
@@ -81,14 +81,14 @@ first-does u v m o p e (a, b) = rw (← e) (omega (arith, a), b, omega (arith, a
 
 pub all-do : (s u v x y input : List ℕ) (a b r : ℕ) (f t : List ℕ) →
     (a ≡ length (formatLine (formatOutcome 2 (length s)))) × (v ≡ written u 0 (formatLine (formatOutcome 2 (length s)))) × (f ≡ formatted 2 s) × (a ≤ 16) →
-    (b ≡ a + length (textOn f (lines input))) × (x ≡ written v a (textOn f (lines input))) × (t ≡ poolOn f (lines input)) × (b ≤ a + 5 * (length input + 1)) →
+    (b ≡ a + length (textOn f (lines input))) × (x ≡ written v a (textOn f (lines input))) × (t ≡ finalOn f (lines input)) × (b ≤ a + 5 * (length input + 1)) →
     (r ≡ b + length (summaryOf 2 t)) × (y ≡ written x b (summaryOf 2 t)) →
     (r ≡ length (printoutOn s input)) × (y ≡ written u 0 (printoutOn s input))
 unfolding printoutOn exchangeOn
 all-do s u v x y input a b r f t (p, q, g, _) (p′, q′, g′, _) (p″, q″) =
     let first : List ℕ = formatLine (formatOutcome 2 (length s)) in
     let text : List ℕ = textOn (formatted 2 s) (lines input) in
-    let last : List ℕ = summaryOf 2 (poolOn (formatted 2 s) (lines input)) in
+    let last : List ℕ = summaryOf 2 (finalOn (formatted 2 s) (lines input)) in
     let n₁ : b ≡ a + length text = rw (← g) p′ in
     let w₁ : x ≡ written v a text = rw (← g) q′ in
     let n₂ : r ≡ b + length last = rw (← g, ← g′) p″ in

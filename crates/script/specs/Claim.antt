@@ -6,7 +6,7 @@ use Prim.Native.Nat.{ℕ, _≤_, _<_}
 use lib.ListN.{length, getD, take}
 use Rattle.model.specs.State.{State}
 use Rattle.numerals.specs.Numeral.{valueOf, isNumber}
-use Rattle.printout.specs.Text.{decimal}
+use Rattle.printing.specs.Text.{decimal}
 use Rattle.lines.specs.Lines.{request}
 use Rattle.script.specs.Script.{reply, replies, final, printout}
 

@@ -2,7 +2,7 @@
 use mathlib.Core.Path.{_≡_}
 use Prim.Native.Nat.{ℕ}
 use mathlib.Core.List.{List, [], _∷_, _++_}
-use Rattle.printout.specs.Text.{line}
+use Rattle.printing.specs.Text.{line}
 use Rattle.replies.specs.Replies.{poolWord, atWord, noWord, backLine}
 use Rattle.summary.specs.Summary.{summaryLine}
 use Rattle.script.specs.Script.{printout}

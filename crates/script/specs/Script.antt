@@ -11,7 +11,7 @@ use Rattle.model.specs.Calls.{Call, fresh, step}
 use Rattle.rules.specs.Rules.{freeIn}
 use Rattle.demands.specs.Calls.{outcome}
 use Rattle.lines.specs.Lines.{lines, request}
-use Rattle.printout.specs.Text.{line}
+use Rattle.printing.specs.Text.{line}
 use Rattle.replies.specs.Replies.{poolWord, refusalLine, replyLine}
 use Rattle.summary.specs.Summary.{summaryLine}
 

@@ -9,7 +9,7 @@ use Rattle.model.specs.Calls.{Call}
 use Rattle.format.specs.Format.{formatOutcome, formatted}
 use Rattle.demands.specs.Calls.{answered, after}
 use Rattle.lines.specs.Lines.{lines, request}
-use Rattle.printout.specs.Text.{written}
+use Rattle.printing.specs.Text.{written}
 use Rattle.replies.specs.Replies.{refusalLine, formatLine, replyLine}
 use Rattle.summary.specs.Summary.{summaryOf}
 use Rattle.script.specs.Script.{joined}
@@ -30,7 +30,7 @@ abbrev pub repliesOn : List ℕ → List (List ℕ) → List (List ℕ)
 repliesOn s [] = []
 repliesOn s (l ∷ ls) = replyOn s (request l) ∷ repliesOn (nextOn s (request l)) ls
 
-abbrev pub finalOn : List ℕ → List (List ℕ) → List ℕ
+unfoldable pub finalOn : List ℕ → List (List ℕ) → List ℕ
 finalOn s [] = s
 finalOn s (l ∷ ls) = finalOn (nextOn s (request l)) ls
 
@@ -38,12 +38,9 @@ finalOn s (l ∷ ls) = finalOn (nextOn s (request l)) ls
 unfoldable pub textOn : List ℕ → List (List ℕ) → List ℕ
 textOn s ls = joined (repliesOn s ls)
 
-unfoldable pub poolOn : List ℕ → List (List ℕ) → List ℕ
-poolOn s ls = finalOn s ls
-
 -- .. and with the first line and the last
 unfoldable pub exchangeOn : List ℕ → List (List ℕ) → List ℕ
-exchangeOn s ls = textOn s ls ++ summaryOf 2 (poolOn s ls)
+exchangeOn s ls = textOn s ls ++ summaryOf 2 (finalOn s ls)
 
 unfoldable pub printoutOn : List ℕ → List ℕ → List ℕ
 printoutOn s input = formatLine (formatOutcome 2 (length s)) ++ exchangeOn (formatted 2 s) (lines input)

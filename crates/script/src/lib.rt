@@ -9,10 +9,10 @@ ghost use lib.ListN.{length};
 ghost use Rattle.model.specs.Calls.{Alloc, Free};
 ghost use Rattle.format.specs.Format.{formatOutcome, formatted};
 ghost use Rattle.lines.specs.Lines.{lines, request, callOf};
-ghost use Rattle.printout.specs.Text.{written};
+ghost use Rattle.printing.specs.Text.{written};
 ghost use Rattle.replies.specs.Replies.{formatLine};
 ghost use Rattle.script.specs.Script.{transcript, printout};
-ghost use Rattle.script.specs.Served.{Serves, textOn, poolOn};
+ghost use Rattle.script.specs.Served.{Serves, textOn, finalOn};
 
 // Each function writes from place n on and answers the place after its lines.
 fn serve_take(pool: &mut [u8], size: u32, out: &mut [u8], n: usize) -> usize
@@ -49,7 +49,7 @@ fn serve_line(pool: &mut [u8], line: &[u8], out: &mut [u8], n: usize) -> usize
 
 fn serve_lines(pool: &mut [u8], input: &[u8], out: &mut [u8], n: usize) -> usize
     requires { ⌜ n + 5 * (length (now input) + 1) ≤ 1000000 ⌝ }
-    ensures { λ r. ⌜ (r ≡ n + length (textOn (now (pool .entry)) (lines (now (input .entry))))) × (now (out .exit) ≡ written (now (out .entry)) n (textOn (now (pool .entry)) (lines (now (input .entry))))) × (now (pool .exit) ≡ poolOn (now (pool .entry)) (lines (now (input .entry)))) × (r ≤ n + 5 * (length (now (input .entry)) + 1)) ⌝ }
+    ensures { λ r. ⌜ (r ≡ n + length (textOn (now (pool .entry)) (lines (now (input .entry))))) × (now (out .exit) ≡ written (now (out .entry)) n (textOn (now (pool .entry)) (lines (now (input .entry))))) × (now (pool .exit) ≡ finalOn (now (pool .entry)) (lines (now (input .entry)))) × (r ≤ n + 5 * (length (now (input .entry)) + 1)) ⌝ }
 {
     let mut next = n;
     let mut at = 0;

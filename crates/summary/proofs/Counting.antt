@@ -11,8 +11,8 @@ use Rattle.base.proofs.Count.{count-bound}
 use Rattle.rules.specs.Read.{isHead}
 use Rattle.rules.specs.Rules.{kindAt}
 use Rattle.rules.specs.Bytes.{pagesIn, fieldsOf}
-use Rattle.printout.specs.Text.{phrase, line, written}
-use Rattle.printout.proofs.Writing.{written-append}
+use Rattle.printing.specs.Text.{phrase, line, written}
+use Rattle.printing.proofs.Writing.{written-append}
 use Rattle.summary.specs.Summary.{freeWord, runsWord, summaryLine, freeRuns}
 
 module _ (w : ℕ) (s : List ℕ) (n : ℕ) where

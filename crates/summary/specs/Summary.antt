@@ -5,7 +5,7 @@ use Rattle.base.specs.Count.{count}
 use Rattle.records.specs.Header.{headerAt}
 use Rattle.rules.specs.Read.{isHead}
 use Rattle.rules.specs.Bytes.{pagesIn, fieldsOf}
-use Rattle.printout.specs.Text.{phrase, line}
+use Rattle.printing.specs.Text.{phrase, line}
 
 -- `free `, ` runs `
 abbrev pub freeWord : List ℕ

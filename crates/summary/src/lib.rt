@@ -1,11 +1,11 @@
 // The last line of a printout: the free pages and the free runs, as the pool's records tell them.
-use printout::put_line;
-use printout::put_phrase;
+use printing::put_line;
+use printing::put_phrase;
 use tests::one_if;
 ghost use mathlib.Core.Path.{_≡_};
 ghost use Prim.Native.Nat.{_≤_};
 ghost use Rattle.rules.specs.Bytes.{pagesIn};
-ghost use Rattle.printout.specs.Text.{Prints};
+ghost use Rattle.printing.specs.Text.{Prints};
 ghost use Rattle.summary.specs.Summary.{summaryLine, freeRuns, summaryOf};
 
 // The free runs of a pool of n pages: those pages that are the first of one.

@@ -16,7 +16,10 @@ both-requires c κs = search needs
 
 returns : tie.Need-returns
 unfolding rule4
-returns c = let b = c .before .before .before .before in rw (c .before .before .class-lists .ensures, c .before .middle .ensures .0, alone-is (fieldsOf (b .args .w) (b .args .pool .now)) (b .args .n) (b .args .t .now) (b .pre .most) (b .pre .counted)) at (c .both .ensures)
+returns c =
+    let b = c .before .before .before .before in
+    rw (← alone-is (fieldsOf (b .args .w) (b .args .pool .now)) (b .args .n) (b .args .t .now) (b .pre .most) (b .pre .counted))
+    (rw (c .before .before .class-lists .ensures, c .before .middle .ensures .0) at (c .both .ensures))
 
 pub class-pages-listed-spec : {M : Type 1} → statement M
 class-pages-listed-spec =

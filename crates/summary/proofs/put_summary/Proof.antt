@@ -23,7 +23,7 @@ same-length c = search needs
 
 returns : tie.Need-returns
 unfolding summaryOf
-returns c = (cc, cc)
+returns c = rw (c .before .before .before .before .before .free-runs .ensures, c .before .before .before .before .before .before .before .get-header .ensures) at (c .before .before .put-counts .ensures)
 
 pub put-summary-spec : {M : Type 1} → statement M
 put-summary-spec =

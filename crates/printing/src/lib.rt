@@ -2,7 +2,7 @@
 ghost use mathlib.Core.Path.{_≡_};
 ghost use Prim.Native.Nat.{_+_, _/_, _%_, _≤_, _<_};
 ghost use lib.ListN.{length};
-ghost use Rattle.printout.specs.Text.{tenTo, manyPlaces, places, decimal, phrase, line, written, Prints};
+ghost use Rattle.printing.specs.Text.{tenTo, manyPlaces, places, decimal, phrase, line, written, Prints};
 
 // Writes a text from place n on, and answers the place after it.
 pub fn put_text(out: &mut [u8], n: usize, text: &[u8]) -> usize

@@ -1,8 +1,8 @@
 use borrow.Author.Needs.{needs}
 use mathlib.Core.Path.{refl}
-use Rattle.printout.proofs.Writing.{line-does}
-use Rattle.printout.proofs.put_line.Statement.{statement}
-use Rattle.printout.proofs.put_line.Tie as tie
+use Rattle.printing.proofs.Writing.{line-does}
+use Rattle.printing.proofs.put_line.Statement.{statement}
+use Rattle.printing.proofs.put_line.Tie as tie
 
 put-phrase-requires : tie.Need-put-phrase-requires
 put-phrase-requires c κs = search needs

@@ -7,7 +7,7 @@ use native.Mathlib.Nat.{add-zero}
 use native.Mathlib.Omega.{arith}
 use lib.ListN.{length, getD, drop, set, length-append}
 use lib.Seq.{sets, drop-cons, drop-length, length-sets}
-use Rattle.printout.specs.Text.{tenTo, digits, places, decimal, phrase, line, written}
+use Rattle.printing.specs.Text.{tenTo, digits, places, decimal, phrase, line, written}
 
 sets-append : (s : List ℕ) (n : ℕ) (xs ys : List ℕ) → sets s n (xs ++ ys) ≡ sets (sets s n xs) (n + length xs) ys
 sets-append s n [] ys = rw (add-zero n)

@@ -2,10 +2,10 @@ use mathlib.Core.Path.{_≡_, refl}
 use Prim.Native.Nat.{_-_, _≤_}
 use native.Mathlib.Omega.{arith}
 use borrow.Author.Needs.{needs}
-use Rattle.printout.specs.Text.{tenTo}
-use Rattle.printout.proofs.Digits.{tens, ten-pos, ten-small, ten-more, ten-done}
-use Rattle.printout.proofs.ten_to.Statement.{statement}
-use Rattle.printout.proofs.ten_to.Tie as tie
+use Rattle.printing.specs.Text.{tenTo}
+use Rattle.printing.proofs.Digits.{tens, ten-pos, ten-small, ten-more, ten-done}
+use Rattle.printing.proofs.ten_to.Statement.{statement}
+use Rattle.printing.proofs.ten_to.Tie as tie
 
 abbrev Inv-loop : tie.InvT-loop
 Inv-loop k p₀ i₀ p i = (i ≤ k) × (p ≡ tenTo i)

@@ -1,6 +1,6 @@
 use borrow.Author.Needs.{needs}
-use Rattle.printout.proofs.digit.Statement.{statement}
-use Rattle.printout.proofs.digit.Tie as tie
+use Rattle.printing.proofs.digit.Statement.{statement}
+use Rattle.printing.proofs.digit.Tie as tie
 
 ten-to-requires : tie.Need-ten-to-requires
 ten-to-requires c κs = search needs

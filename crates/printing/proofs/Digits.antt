@@ -7,7 +7,7 @@ use native.Mathlib.Omega.{arith}
 use lib.ListN.{length}
 use borrow.Author.Needs.{needs}
 use Rattle.base.specs.Tests.{pick}
-use Rattle.printout.specs.Text.{tenTo, digits, manyPlaces, places, decimal}
+use Rattle.printing.specs.Text.{tenTo, digits, manyPlaces, places, decimal}
 
 pub ten-pos : (k : ℕ) → 0 < tenTo k
 unfolding tenTo

@@ -1,7 +1,7 @@
 use Rattle.base.proofs.Tests.{picks}
-use Rattle.printout.specs.Text.{manyPlaces}
-use Rattle.printout.proofs.many_places.Statement.{statement}
-use Rattle.printout.proofs.many_places.Tie as tie
+use Rattle.printing.specs.Text.{manyPlaces}
+use Rattle.printing.proofs.many_places.Statement.{statement}
+use Rattle.printing.proofs.many_places.Tie as tie
 
 returns : tie.Need-returns
 unfolding manyPlaces

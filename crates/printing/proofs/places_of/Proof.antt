@@ -1,8 +1,8 @@
 use borrow.Author.Needs.{needs}
 use Rattle.base.proofs.Tests.{picks}
-use Rattle.printout.specs.Text.{places}
-use Rattle.printout.proofs.places_of.Statement.{statement}
-use Rattle.printout.proofs.places_of.Tie as tie
+use Rattle.printing.specs.Text.{places}
+use Rattle.printing.proofs.places_of.Statement.{statement}
+use Rattle.printing.proofs.places_of.Tie as tie
 
 returns : tie.Need-returns
 unfolding places

@@ -1,7 +1,7 @@
 use borrow.Author.Needs.{needs}
-use Rattle.printout.proofs.Writing.{phrase-does}
-use Rattle.printout.proofs.put_phrase.Statement.{statement}
-use Rattle.printout.proofs.put_phrase.Tie as tie
+use Rattle.printing.proofs.Writing.{phrase-does}
+use Rattle.printing.proofs.put_phrase.Statement.{statement}
+use Rattle.printing.proofs.put_phrase.Tie as tie
 
 put-text-requires : tie.Need-put-text-requires
 put-text-requires c κs = search needs

@@ -4,10 +4,10 @@ use native.Mathlib.Nat.{add-zero}
 use native.Mathlib.Omega.{arith}
 use lib.ListN.{length, drop}
 use borrow.Author.Needs.{needs}
-use Rattle.printout.specs.Text.{written}
-use Rattle.printout.proofs.Writing.{text-more, text-done}
-use Rattle.printout.proofs.put_text.Statement.{statement}
-use Rattle.printout.proofs.put_text.Tie as tie
+use Rattle.printing.specs.Text.{written}
+use Rattle.printing.proofs.Writing.{text-more, text-done}
+use Rattle.printing.proofs.put_text.Statement.{statement}
+use Rattle.printing.proofs.put_text.Tie as tie
 
 abbrev Inv-loop : tie.InvT-loop
 Inv-loop out₀ n text i₀ out i =

@@ -3,11 +3,11 @@ use Prim.Native.Nat.{_+_, _≤_}
 use native.Mathlib.Omega.{arith}
 use lib.ListN.{length}
 use borrow.Author.Needs.{needs}
-use Rattle.printout.specs.Text.{digits, places, decimal, written}
-use Rattle.printout.proofs.Digits.{places-few, length-decimal}
-use Rattle.printout.proofs.Writing.{decimal-begun, digit-more, digits-done}
-use Rattle.printout.proofs.put_decimal.Statement.{statement}
-use Rattle.printout.proofs.put_decimal.Tie as tie
+use Rattle.printing.specs.Text.{digits, places, decimal, written}
+use Rattle.printing.proofs.Digits.{places-few, length-decimal}
+use Rattle.printing.proofs.Writing.{decimal-begun, digit-more, digits-done}
+use Rattle.printing.proofs.put_decimal.Statement.{statement}
+use Rattle.printing.proofs.put_decimal.Tie as tie
 
 abbrev Inv-loop : tie.InvT-loop
 Inv-loop out₀ n v at₀ k₀ out at k =
