@@ -1,11 +1,13 @@
 // Alloc on sound records: only the records that change are touched.
 use allocating::Allocated;
 ghost use mathlib.Core.Path.{_≡_};
+ghost use Prim.Native.Nat.{_≤_};
 ghost use Rattle.model.specs.Classes.{pagesFor};
 ghost use Rattle.sizes.specs.Sizes.{classFor};
 ghost use Rattle.allocating.specs.Allocating.{outcomeOf, classOutcome, classSlice, pagesOutcome, pagesSlice, allocOutcome, allocSlice};
 
 fn alloc_small(pool: &mut [u8], w: u8, pages: u16, size: u32) -> Allocated
+    requires { ⌜ size ≤ 2048 ⌝ }
     ensures { λ r. ⌜ (outcomeOf r ≡ classOutcome w (now (pool .entry)) pages (classFor size)) × (now (pool .exit) ≡ classSlice w (now (pool .entry)) pages (classFor size)) ⌝ }
 {
     let c = sizes::class_for(size);

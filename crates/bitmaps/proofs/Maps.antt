@@ -6,15 +6,15 @@ use mathlib.Core.List.{List, [], _∷_, _++_}
 use Prim.Native.Nat.{ℕ, zero, suc, _+_, _-_, _*_, _/_, _%_, _≤_, _<_}
 use native.Mathlib.Omega.{arith}
 use lib.Dec.{lit<}
-use lib.ListN.{length, take, drop, getD, length-append, length-drop, List·getD-append, List·getD-eq-default}
-use lib.Seq.{ext-getD, getD-at, getD-take, getD-drop, length-take-le}
+use lib.ListN.{length, getD, length-append, List·getD-append, List·getD-eq-default}
+use lib.Seq.{ext-getD, getD-at}
 use Rattle.base.specs.Functions.{upd}
 use Rattle.base.proofs.Cases.{eq?, lt?, Out, in?}
 use Rattle.base.proofs.Functions.{upd-same, upd-other}
 use Rattle.words.specs.Word.{Bytes}
 use Rattle.bitmaps.specs.Bitmap.{mark, bitsOf, withMark, mapBytes, splice}
-use Rattle.bitmaps.proofs.Bits.{bits-ext, bit-byte, byte-small, byte-is, byte-ext}
-use Rattle.bitmaps.proofs.Marks.{mark-at, mark-byte, length-withMark, withMark-outside, withMark-small, mark-same, mark-other}
+use Rattle.bitmaps.proofs.Bits.{bits-ext, bit-byte, byte-small, byte-is}
+use Rattle.bitmaps.proofs.Marks.{mark-at, length-withMark, withMark-outside, withMark-small, mark-same, mark-other}
 use Rattle.bitmaps.proofs.Splice.{length-splice, splice-inside, splice-outside, splice-bytes}
 
 pub length-mapBytes : (m : ℕ → Bool) (n : ℕ) → length (mapBytes m n) ≡ n
@@ -45,24 +45,8 @@ mapBytes-bytes m n j = ⊎-elim
     (λ (h : n ≤ j). rw (List·getD-eq-default (mapBytes m n) 0 {n = j} (rw (length-mapBytes m n) h)) (lit< tt))
     (lt? j n)
 
--- two maps of n bytes with the same marks have the same bytes
-pub maps-equal : (s t : List ℕ) (a b n : ℕ) → Bytes s → Bytes t → ((i : ℕ) → i < 8 * n → mark s a i ≡ mark t b i) → (j : ℕ) → j < n → getD s (a + j) 0 ≡ getD t (b + j) 0
-maps-equal s t a b n S T e j h =
-    byte-ext (getD s (a + j) 0) (getD t (b + j) 0) (S (a + j)) (T (b + j))
-    (λ i l. sym (mark-at s a j i l) ∙ e (8 * j + i) (omega arith) ∙ mark-at t b j i l)
-
 -- the map at base, of n bytes that lie inside the pool
 module _ (s : List ℕ) (base n : ℕ) (fits : base + n ≤ length s) where
-  -- read back
-  pub map-read : Bytes s → take n (drop base s) ≡ mapBytes (mark s base) n
-  map-read B =
-      let l : length (take n (drop base s)) ≡ n = length-take-le n (drop base s) (simp length-drop (omega arith)) in
-      ext-getD 0 _ _ (l ∙ sym (length-mapBytes (mark s base) n))
-      (λ j h.
-      let k : j < n = omega (arith, l) in
-      rw (getD-take n (drop base s) j 0 k, getD-drop base s j 0, mapBytes-at (mark s base) n j k)
-      (byte-is (getD s (base + j) 0) (λ i. mark s base (8 * j + i)) (B (base + j)) (λ i u. sym (mark-at s base j i u))))
-
   module _ (m : ℕ → Bool) where
     room : base + length (mapBytes m n) ≤ length s
     room = omega (arith, length-mapBytes m n)
@@ -82,10 +66,6 @@ module _ (s : List ℕ) (base n : ℕ) (fits : base + n ≤ length s) where
         let e : 8 * (i / 8) + i % 8 ≡ i = omega arith in
         rw (map-inside (i / 8) (omega arith)) (bit-byte (λ k. m (8 * (i / 8) + k)) (i % 8) (omega arith) ∙ ap m e)
 
-    -- a mark of another map
-    pub map-apart : (b i : ℕ) → Out base n (b + i / 8) → mark (splice s base (mapBytes m n)) b i ≡ mark s b i
-    map-apart b i h = mark-byte (splice s base (mapBytes m n)) s b b i (map-outside (b + i / 8) h)
-
     pub map-bytes : Bytes s → Bytes (splice s base (mapBytes m n))
     map-bytes B = splice-bytes s (mapBytes m n) base room B (mapBytes-bytes m n)
 
@@ -101,10 +81,6 @@ module _ (s : List ℕ) (base n : ℕ) (fits : base + n ≤ length s) where
             let d : j ≡ base + q = omega arith in
             rw (d, map-inside q (omega arith))
             (byte-is (getD t (base + q) 0) (λ i. m (8 * q + i)) (B q (omega arith)) (λ i u. sym (mark-at t base q i u) ∙ e (8 * q + i) (omega arith)))
-
-  -- a pool is what its own marks make of it
-  pub map-self : Bytes s → splice s base (mapBytes (mark s base) n) ≡ s
-  map-self B = sym (map-unique (mark s base) s refl (λ j h. refl) (λ j h. B (base + j)) (λ i h. refl))
 
   -- a mark written into a map that was written
   pub map-withMark : (m : ℕ → Bool) (i : ℕ) (v : Bool) → i < 8 * n → withMark (splice s base (mapBytes m n)) base i v ≡ splice s base (mapBytes (upd m i v) n)

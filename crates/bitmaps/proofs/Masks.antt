@@ -1,18 +1,18 @@
 -- The code's masks set, clear and fill the bits that they should. Assumes nothing.
-use mathlib.Core.Path.{_≡_, refl, sym}
+use mathlib.Core.Path.{_≡_, refl}
 use mathlib.Core.Bool.{Bool, true, false, cond, not}
-use Prim.Native.Nat.{ℕ, zero, suc, min, max, _+_, _-_, _*_, _/_, _%_, _^_, _≤_, _<_}
+use Prim.Native.Nat.{ℕ, zero, suc, min, max, _+_, _-_, _*_, _/_, _%_, _^_, _<_}
 use native.Mathlib.Omega.{arith}
 use lib.Bits.{bitAnd, bitOr, and-step, or-step, and-shr, or-shr, and-lt, or-lt}
-use lib.Dec.{eqb, ltb}
+use lib.Dec.{eqb}
 use lib.Pow.{shr-le}
-use borrow.Author.Tests.{eqb-true, lt-ltb, not-false}
+use borrow.Author.Tests.{eqb-true, not-false}
 use Rattle.base.specs.Count.{bit}
 use Rattle.base.specs.Functions.{upd}
 use Rattle.base.specs.Search.{least, any}
 use Rattle.base.proofs.Search.{any-false}
-use Rattle.bitmaps.specs.Bitmap.{bitOf, bitsOf, withBit}
-use Rattle.bitmaps.proofs.Bits.{bits-ext, byte-is}
+use Rattle.bitmaps.specs.Bitmap.{bitOf, withBit}
+use Rattle.bitmaps.proofs.Bits.{byte-is}
 
 -- a test that holds of each of the 64 pairs of bits
 pairs : (t : ℕ → ℕ → Bool) → any (λ x. not (t (x / 8) (x % 8))) 64 ≡ false → (i j : ℕ) → i < 8 → j < 8 → t i j ≡ true
@@ -65,13 +65,3 @@ and-mask b i h k =
     (λ j l.
     rw (and-shr b (255 - 128 / 2 ^ i) (7 - j), and-odd (b / 2 ^ (7 - j)) ((255 - 128 / 2 ^ i) / 2 ^ (7 - j)), hole i j k l)
     (and-one (b / 2 ^ (7 - j) % 2) (eqb j i) (omega arith)))
-
--- a byte with its first k bits set
-pub top-some : (k : ℕ) → k < 8 → 255 - 255 / 2 ^ k ≡ bitsOf (λ i. ltb i k) 8
-unfolding any least bitsOf
-top-some k h =
-    eqb-true _ _ (not-false _ (any-false (λ k. not (eqb (255 - 255 / 2 ^ k) (bitsOf (λ i. ltb i k) 8))) 8 refl k h))
-
-pub top-all : (k : ℕ) → 8 ≤ k → 255 ≡ bitsOf (λ i. ltb i k) 8
-unfolding bitsOf
-top-all k h = bits-ext (λ i. true) (λ i. ltb i k) 8 (λ i l. sym (lt-ltb i k (omega arith)))

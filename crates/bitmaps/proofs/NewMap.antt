@@ -1,5 +1,5 @@
 -- A new map, written a byte at a time, and lent by its pool. Assumes nothing.
-use mathlib.Core.Path.{_≡_, refl, sym, ap, _∙_}
+use mathlib.Core.Path.{_≡_, sym, ap, _∙_}
 use mathlib.Core.Logic.{_⊎_, inl, inr}
 use mathlib.Core.List.{List, _++_, append-nil}
 use Prim.Native.Nat.{ℕ, suc, _+_, _-_, _*_, _≤_, _<_}
@@ -21,10 +21,6 @@ unfolding newMap
 length-newMap n k = length-mapBytes (λ i. ltb i k) n
 
 module _ (d : List ℕ) (k : ℕ) where
-  pub new-start : d ≡ newMap 0 k ++ drop 0 d
-  unfolding newMap mapBytes
-  new-start = refl
-
   -- byte j: as many of its marks are set as are left of k
   pub new-more : (j v left : ℕ) → j < length d → left ≡ k - 8 * j → v ≡ bitsOf (λ i. ltb i left) 8 → set (newMap j k ++ drop j d) j v ≡ newMap (j + 1) k ++ drop (j + 1) d
   unfolding newMap mapBytes

@@ -6,22 +6,14 @@ use mathlib.Core.List.{List}
 use Prim.Native.Nat.{ℕ, _+_, _-_, _*_, _%_, _≤_, _<_}
 use native.Mathlib.Omega.{arith}
 use lib.Dec.{eqb}
-use lib.ListN.{getD, length}
+use lib.ListN.{getD}
 use borrow.Author.Tests.{eqb-true, not-false}
 use Rattle.base.specs.Search.{least, any}
 use Rattle.base.specs.Tests.{pick}
 use Rattle.base.proofs.Cases.{eq?, lt?}
-use Rattle.base.proofs.Search.{least-is, least-ext, any-false}
-use Rattle.bitmaps.specs.Bitmap.{bitOf, mark, lowestClear, mapBytes, splice}
-use Rattle.bitmaps.proofs.Maps.{map-mark}
+use Rattle.base.proofs.Search.{least-is, any-false}
+use Rattle.bitmaps.specs.Bitmap.{bitOf, mark, lowestClear}
 use Rattle.bitmaps.proofs.Marks.{mark-at}
-
--- the lowest clear mark of a map that was written
-pub map-lowest : (s : List ℕ) (base n : ℕ) → base + n ≤ length s → (m : ℕ → Bool) (k : ℕ) → k ≤ 8 * n →
-    lowestClear (splice s base (mapBytes m n)) base k ≡ least (λ i. not (m i)) k
-unfolding lowestClear
-map-lowest s base n h m k l =
-    least-ext (λ i. not (mark (splice s base (mapBytes m n)) base i)) (λ i. not (m i)) k (λ i u. rw (map-mark s base n h m i (omega arith)))
 
 -- ---- the code's search
 

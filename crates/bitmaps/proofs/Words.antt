@@ -2,16 +2,16 @@
 use mathlib.Core.Path.{_≡_, refl, sym, ap, _∙_}
 use mathlib.Core.Bool.{Bool}
 use mathlib.Core.List.{List}
-use Prim.Native.Nat.{ℕ, zero, suc, _+_, _*_, _/_, _≤_, _<_}
+use Prim.Native.Nat.{ℕ, zero, suc, _+_, _*_, _/_, _<_}
 use native.Mathlib.Omega.{arith}
 use lib.ListN.{length, getD}
 use Rattle.base.specs.Functions.{upd}
 use Rattle.words.specs.Word.{Bytes, wordAt, word, withWord, setWord}
 use Rattle.words.proofs.Laws.{words, word-in, set-in, setWord-back}
 use Rattle.bitmaps.specs.Bitmap.{mark, bitsOf, withMark, mapBytes, splice}
-use Rattle.bitmaps.proofs.Bits.{bits-ext, bits-small, bits-join, bits-injective, byte-small, byte-is}
+use Rattle.bitmaps.proofs.Bits.{bits-small, bits-join, bits-injective, byte-is}
 use Rattle.bitmaps.proofs.Marks.{mark-at}
-use Rattle.bitmaps.proofs.Maps.{map-inside, map-mark, map-unique, map-withMark}
+use Rattle.bitmaps.proofs.Maps.{map-unique, map-withMark}
 
 -- ---- n bytes
 
@@ -28,11 +28,6 @@ number-marks s base (suc n) B =
     let b : getD s (base + n) 0 ≡ bitsOf (λ i. mark s base (8 * n + i)) 8 =
     byte-is (getD s (base + n) 0) (λ i. mark s base (8 * n + i)) (B n (omega arith)) (λ i l. sym (mark-at s base n i l)) in
     rw (e, bits-join (mark s base) (8 * n) 8, b, number-marks s base n (λ j l. B j (omega arith)))
-
-pub number-map : (s : List ℕ) (base n : ℕ) (m : ℕ → Bool) → base + n ≤ length s → numberAt (splice s base (mapBytes m n)) base n ≡ bitsOf m (8 * n)
-number-map s base n m h =
-    number-marks (splice s base (mapBytes m n)) base n (λ j l. rw (map-inside s base n h m j l) (byte-small (λ i. m (8 * j + i))))
-    ∙ bits-ext _ m (8 * n) (map-mark s base n h m)
 
 -- ---- a word
 

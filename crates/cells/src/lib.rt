@@ -1,14 +1,23 @@
 // Bytes and words of a slice by their number. Reads and writes are total: outside the slice a read gives 0 and a write does nothing.
 ghost use mathlib.Core.Path.{_≡_};
-ghost use lib.ListN.{getD, set};
+ghost use Prim.Native.Nat.{_/_, _<_};
+ghost use lib.ListN.{getD, set, length};
 ghost use Rattle.words.specs.Word.{word, setWord};
 
-// Word k of s, which holds bytes 8k to 8k + 7; 0 past the last whole word.
+// Word k of s, which holds bytes 8k to 8k + 7, where the caller knows that it is whole.
+pub fn get_word_in(s: &[u8], k: usize) -> u64
+    requires { ⌜ k < length (now s) / 8 ⌝ }
+    ensures { λ r. ⌜ r ≡ word (now (s .entry)) k ⌝ }
+{
+    words::get64(s, 8 * k)
+}
+
+// The same for any k; 0 past the last whole word.
 pub fn get_word(s: &[u8], k: usize) -> u64
     ensures { λ r. ⌜ r ≡ word (now (s .entry)) k ⌝ }
 {
     if k < s.len() / 8 {
-        words::get64(s, 8 * k)
+        get_word_in(s, k)
     } else {
         0
     }

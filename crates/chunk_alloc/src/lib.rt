@@ -22,8 +22,8 @@ fn free_chunk_of(pool: &[u8], w: u8, pages: u16, c: u8, p: PageNumber) -> u16
 fn take_chunk(pool: &mut [u8], w: u8, pages: u16, c: u8, p: PageNumber, i: u16)
     ensures { λ _. ⌜ now (pool .exit) ≡ chunkTaken w (now (pool .entry)) pages c (p .0) i ⌝ }
 {
-    let n = page_maps::marks_set(pool, w, pages, p, c);
-    class_lists::leave_if_full(pool, w, c, p, n);
+    let last = page_maps::is_last_free(pool, w, pages, p, c, i);
+    class_lists::leave_if_full(pool, w, c, p, last);
     marks::set_mark(pool, page_maps::map_base(w, pages, p, c), i);
     counting::count_used(pool, w, c);
 }

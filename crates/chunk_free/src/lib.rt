@@ -2,13 +2,14 @@
 // `w` is the number of words of a class record, `pages` the pages of the pool.
 use records::PageNumber;
 ghost use mathlib.Core.Path.{_≡_};
-ghost use Rattle.chunks.specs.Chunks.{chunkKept, pageDropped, freedOf, chunkFreed};
+ghost use Rattle.chunks.specs.Chunks.{chunkKept, pageDropped, chunkFreed};
 
-// Chunk i of page p, of which n chunks are marked, comes back and others stay taken.
-fn keep_page(pool: &mut [u8], w: u8, pages: u16, c: u8, p: PageNumber, i: u16, n: u16)
-    ensures { λ _. ⌜ now (pool .exit) ≡ chunkKept w (now (pool .entry)) pages c (p .0) i n ⌝ }
+// Chunk i of page p comes back and others stay taken.
+fn keep_page(pool: &mut [u8], w: u8, pages: u16, c: u8, p: PageNumber, i: u16)
+    ensures { λ _. ⌜ now (pool .exit) ≡ chunkKept w (now (pool .entry)) pages c (p .0) i ⌝ }
 {
-    class_lists::return_if_full(pool, w, c, p, n);
+    let full = page_maps::is_full(pool, w, pages, p, c);
+    class_lists::return_if_full(pool, w, c, p, full);
     marks::clear_mark(pool, page_maps::map_base(w, pages, p, c), i);
     counting::count_back(pool, w, c);
 }
@@ -23,20 +24,13 @@ fn drop_page(pool: &mut [u8], w: u8, pages: u16, c: u8, p: PageNumber, i: u16)
     counting::count_page_back(pool, w, c);
 }
 
-fn free_of(pool: &mut [u8], w: u8, pages: u16, c: u8, p: PageNumber, i: u16, n: u16)
-    ensures { λ _. ⌜ now (pool .exit) ≡ freedOf w (now (pool .entry)) pages c (p .0) i n ⌝ }
-{
-    if chunks::is_last_taken(c, n) {
-        drop_page(pool, w, pages, c, p, i);
-    } else {
-        keep_page(pool, w, pages, c, p, i, n);
-    }
-}
-
 // Chunk i of page p, which is taken, comes back.
 pub fn free_chunk(pool: &mut [u8], w: u8, pages: u16, c: u8, p: PageNumber, i: u16)
     ensures { λ _. ⌜ now (pool .exit) ≡ chunkFreed w (now (pool .entry)) pages c (p .0) i ⌝ }
 {
-    let n = page_maps::marks_set(pool, w, pages, p, c);
-    free_of(pool, w, pages, c, p, i, n);
+    if page_maps::is_last_taken(pool, w, pages, p, c, i) {
+        drop_page(pool, w, pages, c, p, i);
+    } else {
+        keep_page(pool, w, pages, c, p, i);
+    }
 }

@@ -6,19 +6,17 @@ use Prim.Native.Nat.{ℕ, zero, suc, _+_, _-_, _*_, _≤_, _<_}
 use native.Mathlib.Omega.{arith}
 use native.Mathlib.Nat.{add-mul}
 use lib.Dec.{leb}
-use borrow.Author.Tests.{eq-eqb, lt-ltb, le-ltb, le-leb, lt-leb, not-true, not-false}
+use borrow.Author.Tests.{eq-eqb, lt-ltb, le-ltb, le-leb, lt-leb, not-false}
 use Rattle.base.specs.Tests.{pick}
 use Rattle.base.specs.Count.{sum, bit, count}
-use Rattle.base.specs.Functions.{upd}
 use Rattle.base.proofs.Cases.{eq?, lt?}
-use Rattle.base.proofs.Count.{sum-ext, sum-zero, sum-bump, count-bound}
-use Rattle.base.proofs.Functions.{upd-same, upd-other}
-use Rattle.base.proofs.Search.{any-false, any-some}
+use Rattle.base.proofs.Count.{sum-ext, sum-zero, sum-bump}
+use Rattle.base.proofs.Search.{any-false}
 use Rattle.model.specs.Classes.{chunks, own, counted, hasClear, hasTaken}
 use Rattle.model.specs.State.{Page, slab, State, isIdle}
 use Rattle.model.specs.View.{isClass, kindOf, usedOn, usedOf, totalIn, shown}
 use Rattle.model.specs.WellFormed.{ClassOk}
-use Rattle.model.proofs.Classes.{large-chunks, own-few, some-taken}
+use Rattle.model.proofs.Classes.{large-chunks, own-few}
 use Rattle.rules.specs.Rules.{freeIn}
 use Rattle.popcount.specs.Popcount.{mapBits}
 use Rattle.popcount.proofs.Counts.{count-join}
@@ -95,13 +93,6 @@ module _ (c : ℕ) where
       (λ j d. ap (λ (t : Bool). leb (own c) j && t) (e j d))
       ∙ ap (λ (x : ℕ). x + 1) (sym (used-marks k))
 
-  pub used-some : (k : ℕ → Bool) → hasTaken c k ≡ true → 1 ≤ usedOn c (slab c k)
-  used-some k h =
-      let (i, o, l, t) = some-taken c k h in
-      let z : usedOn c (slab c k) ≡ usedOn c (slab c (upd k i false)) + 1 =
-      used-bump (upd k i false) k i o l (upd-same k i false) t (λ j d. sym (upd-other k i false j d)) in
-      omega arith
-
   pub used-no : (k : ℕ → Bool) → hasTaken c k ≡ false → usedOn c (slab c k) ≡ 0
   unfolding taken? hasTaken
   used-no k h = used-marks k ∙ count-none (taken? k) (chunks c) (any-false (λ i. leb (own c) i && k i) (chunks c) h)
@@ -136,15 +127,6 @@ module _ (c : ℕ) where
 
     pub marks-count : count k (mapBits c) ≡ own c + usedOn c (slab c k)
     marks-count = bits-chunks ∙ own-marks k (ok .in-range) (ok .own-set)
-
-    -- a page with a clear mark, and one without
-    pub marks-few : hasClear c k ≡ true → count k (mapBits c) < chunks c
-    unfolding hasClear
-    marks-few h =
-        let (i, l, t) = any-some (λ j. not (k j)) (chunks c) h in
-        let z : count (upd k i true) (chunks c) ≡ count k (chunks c) + 1 =
-        count-bump k (upd k i true) (chunks c) i l (not-true (k i) t) (upd-same k i true) (upd-other k i true) in
-        omega (arith, bits-chunks, count-bound (upd k i true) (chunks c))
 
     pub marks-all : hasClear c k ≡ false → count k (mapBits c) ≡ chunks c
     unfolding hasClear

@@ -1,7 +1,7 @@
 -- The last chunk of a page comes back and the page is released: the bytes become the next state's drawing over the bytes with the mark cleared. Assumes nothing.
 use mathlib.Core.Path.{_≡_, refl, sym, ap, _∙_}
 use mathlib.Core.Logic.{_⊎_, inl, inr, ⊎-elim, _≢_}
-use mathlib.Core.Bool.{Bool, true, false}
+use mathlib.Core.Bool.{Bool, true, false, not}
 use mathlib.Core.List.{List}
 use Prim.Native.Nat.{ℕ, suc, _+_, _-_, _*_, _≤_, _<_}
 use native.Mathlib.Omega.{arith}
@@ -45,8 +45,9 @@ use Rattle.freeruns.proofs.Join.{released-pages, released-class, released-map, 
 use Rattle.freeruns.proofs.Laws.{released-paint}
 use Rattle.coalesce.specs.Release.{pagesReleased}
 use Rattle.classes.proofs.Numbers.{own-past}
-use Rattle.classes.specs.Classes.{marksSet, pageBack, countPageBack}
-use Rattle.chunks.specs.Chunks.{delisted, pageDropped, freedOf, chunkFreed}
+use Rattle.classes.specs.Classes.{mapWord, pageBack, countPageBack}
+use Rattle.occupancy.specs.Occupancy.{lastTaken}
+use Rattle.chunks.specs.Chunks.{delisted, pageDropped, chunkFreed}
 use Rattle.drawing.specs.Draw.{mapHas, mapByte, mapped, draw}
 use Rattle.drawing.proofs.Mapped.{length-mapped, mapped-map, mapped-is}
 use Rattle.drawing.proofs.Drawn.{map-small}
@@ -81,8 +82,8 @@ module _ (w : ℕ) (wide : 2 ≤ w) (narrow : w ≤ 255) (s : List ℕ) (B : Byt
       let z : usedOn c (slab c k) ≡ usedOn c (slab c k′) + 1 = used-bump c k′ k i in-use in-range (upd-same k i false) set (λ j d. sym (upd-other k i false j d)) in
       omega (arith, used-no c k′ last)
 
-  counted-marks : marksSet w (draw w s m) P c p ≡ own c + 1
-  counted-marks = omega (arith, used-one, remarked.marks-counted m W few w wide narrow s B room p c k is)
+  last-told : lastTaken (draw w s m) (mapWord w P p c) c i ≡ true
+  last-told = remarked.last-taken-told m W few w wide narrow s B room p c k is i in-use in-range set ∙ ap not last
 
   -- a page with one chunk taken is not full
   unfilled : hasClear c k ≡ true
@@ -222,13 +223,13 @@ module _ (w : ℕ) (wide : 2 ≤ w) (narrow : w ≤ 255) (s : List ℕ) (B : Byt
       ∙ ap (paint w P (stateImage n)) maps-stay))
 
   pub page-dropped : chunkFreed w (draw w s m) P c p i ≡ draw w (withMark (draw w s m) (mapBase w P p c) i false) (dropPage m p c k)
-  unfolding chunkFreed freedOf pageDropped countPageBack pick
+  unfolding chunkFreed pageDropped countPageBack pick
   page-dropped =
       let F = midway-fits m n W Wn refl few in
       let z : withMark (pagesReleased w (delisted w (draw w s m) c p) P p 1) (mapBase w P p c) i false ≡ paint w P (setMap (midway m n) p (mapOf (slab c k′))) (mapped w m₁ s) =
       ap (λ (t : List ℕ). withMark t (mapBase w P p c) i false) lists-drawn
       ∙ mark-drawn w s m W room p below wide narrow few B (midway m n) F maps c k is (unfold stateImage in (rw is)) i false in-range in
-      rw (eq-eqb (marksSet w (draw w s m) P c p) (own c + 1) counted-marks, z, next)
+      rw (last-told, z, next)
       (class-drawn w P wide (setMap (midway m n) p (mapOf (slab c k′))) (mapped w m₁ s) (rw (length-mapped w m₁ s) (omega arith)) (fits-map F p (mapOf (slab c k′))) c
       (page-ok .in-range) (pageBack c)
       ∙ counts-drawn m n W Wn refl few c _ _ (λ q h. map-frame m n p (mapOf (slab c k′)) there (ap mapOf here ∙ sym no-field) q) own-record

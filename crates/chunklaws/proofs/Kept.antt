@@ -1,12 +1,12 @@
 -- A chunk comes back and others of its page stay taken: the bytes become the drawing of the next state. Assumes nothing.
-use mathlib.Core.Path.{_≡_, refl, sym, _∙_}
+use mathlib.Core.Path.{_≡_, refl, sym, _∙_, ap}
 use mathlib.Core.Logic.{_⊎_, inl, inr, ⊎-elim, _≢_}
-use mathlib.Core.Bool.{Bool, true, false}
+use mathlib.Core.Bool.{Bool, true, false, not}
 use mathlib.Core.List.{List, [], _∷_}
 use Prim.Native.Nat.{ℕ, suc, _+_, _-_, _*_, _≤_, _<_}
 use native.Mathlib.Omega.{arith}
 use lib.ListN.{length}
-use borrow.Author.Tests.{eq-eqb, ne-eqb}
+use borrow.Author.Tests.{ne-eqb}
 use Rattle.base.specs.Tests.{pick}
 use Rattle.base.specs.Functions.{upd}
 use Rattle.base.specs.Lists.{Mem}
@@ -34,11 +34,12 @@ use Rattle.rules.proofs.Fits.{state-fits}
 use Rattle.shows.specs.Shows.{Unlisted}
 use Rattle.shows.proofs.Shows.{state-shows, not-start, not-listed}
 use Rattle.freeruns.proofs.Shown.{state-scene}
-use Rattle.classes.specs.Classes.{marksSet, chunkBack, countBack}
-use Rattle.chunks.specs.Chunks.{classLinks, fullReturns, chunkKept, freedOf, chunkFreed}
+use Rattle.classes.specs.Classes.{mapWord, chunkBack, countBack}
+use Rattle.occupancy.specs.Occupancy.{isFull}
+use Rattle.chunks.specs.Chunks.{classLinks, fullReturns, chunkKept, chunkFreed}
 use Rattle.drawing.specs.Draw.{mapped, draw}
 use Rattle.chunklaws.specs.Midway.{midway}
-use Rattle.chunklaws.proofs.Counts.{used-bump, used-some, marks-count, marks-few, marks-all}
+use Rattle.chunklaws.proofs.Counts.{used-bump}
 use Rattle.chunklaws.proofs.Lists.{pushed-shows, enlisted-painted}
 use Rattle.chunklaws.proofs.Remarked as remarked
 
@@ -74,8 +75,8 @@ module _ (w : ℕ) (wide : 2 ≤ w) (narrow : w ≤ 255) (s : List ℕ) (B : Byt
   used-more : usedOn c (slab c k) ≡ usedOn c (slab c k′) + 1
   used-more = used-bump c k′ k i in-use in-range (upd-same k i false) set (λ j d. sym (upd-other k i false j d))
 
-  counted : marksSet w (draw w s m) P c p ≡ own c + usedOn c (slab c k)
-  counted = remarked.marks-counted m W few w wide narrow s B room p c k is
+  full : (b : Bool) → hasClear c k ≡ b → isFull (draw w s m) (mapWord w P p c) c ≡ not b
+  full b h = remarked.full-told m W few w wide narrow s B room p c k is ∙ ap not h
 
   -- ---- the class record
 
@@ -94,17 +95,17 @@ module _ (w : ℕ) (wide : 2 ≤ w) (narrow : w ≤ 255) (s : List ℕ) (B : Byt
 
   -- ---- the lists
 
-  stays : hasClear c k ≡ true → fullReturns w (draw w s m) c p (marksSet w (draw w s m) P c p) ≡ paint w P (midway m n) S
+  stays : hasClear c k ≡ true → fullReturns w (draw w s m) c p (isFull (draw w s m) (mapWord w P p c) c) ≡ paint w P (midway m n) S
   unfolding fullReturns pick relisted
   stays h =
-      rw (ne-eqb (marksSet w (draw w s m) P c p) (chunks c) (λ e. omega (arith, counted, marks-count c page-ok, marks-few c page-ok h)))
+      rw (full true h)
       (remarked.list-stays m W few w wide narrow s B room p c k is i false in-range l (m .tally) Wn (rw h))
 
-  returns : hasClear c k ≡ false → fullReturns w (draw w s m) c p (marksSet w (draw w s m) P c p) ≡ paint w P (midway m n) S
+  returns : hasClear c k ≡ false → fullReturns w (draw w s m) c p (isFull (draw w s m) (mapWord w P p c) c) ≡ paint w P (midway m n) S
   unfolding fullReturns pick draw
   returns h =
       rw (
-        eq-eqb (marksSet w (draw w s m) P c p) (chunks c) (counted ∙ sym (marks-count c page-ok) ∙ marks-all c page-ok h),
+        full false h,
         enlisted-painted w P wide narrow (omega arith) S (remarked.records-room m W few w wide narrow s B room p c k is) (state-fits W few) c p (page-ok .in-range) below first,
       )
       (remarked.lists-drawn m W few w wide narrow s B room p c k is i false in-range l (m .tally) Wn (upd (m .lists) c (p ∷ m .lists c)) L
@@ -140,8 +141,8 @@ module _ (w : ℕ) (wide : 2 ≤ w) (narrow : w ≤ 255) (s : List ℕ) (B : Byt
           closed d (inr e) = open-other c d k e
 
   pub chunk-kept : chunkFreed w (draw w s m) P c p i ≡ draw w s (keepPage m p c k i)
-  unfolding chunkFreed freedOf chunkKept countBack keepPage pick
+  unfolding chunkFreed chunkKept countBack keepPage pick
   chunk-kept =
-      rw (ne-eqb (marksSet w (draw w s m) P c p) (own c + 1) (λ e. omega (arith, counted, used-more, used-some c k′ stay)))
+      rw (remarked.last-taken-told m W few w wide narrow s B room p c k is i in-use in-range set ∙ ap not stay)
       (remarked.remarked-drawn m W few w wide narrow s B room p c k is i false in-range l (m .tally) Wn chunkBack own-record (λ d e. refl) _
       (⊎-elim stays returns (bool? (hasClear c k))))

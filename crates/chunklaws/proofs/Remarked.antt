@@ -1,14 +1,13 @@
 -- The marks of a class page change, and its class's list and tally with them: what of the records stays, and what the counts are. Assumes nothing.
 use mathlib.Core.Path.{_≡_, refl, sym, ap, _∙_, subst, fun-ext}
 use mathlib.Core.Logic.{_⊎_, inl, inr, ⊎-elim, _≢_}
-use mathlib.Core.Bool.{Bool, not}
+use mathlib.Core.Bool.{Bool, true, false, not}
 use mathlib.Core.List.{List, _∷_}
-use Prim.Native.Nat.{ℕ, suc, _+_, _-_, _*_, _/_, _≤_, _<_}
+use Prim.Native.Nat.{ℕ, suc, _+_, _*_, _/_, _≤_, _<_}
 use native.Mathlib.Omega.{arith}
 use lib.ListN.{length}
 use borrow.Author.Tests.{eq-eqb, ne-eqb, le-ltb, lt-ltb}
 use Rattle.base.specs.Tests.{pick}
-use Rattle.base.specs.Count.{bit, count}
 use Rattle.base.specs.Functions.{upd}
 use Rattle.base.specs.Lists.{Mem, keep}
 use Rattle.base.specs.Links.{others}
@@ -21,8 +20,8 @@ use Rattle.records.specs.Layout.{noPage}
 use Rattle.records.specs.declared.Links.{Links}
 use Rattle.records.specs.declared.ClassRecord.{ClassRecord}
 use Rattle.records.specs.Class.{classAt, withClass}
-use Rattle.model.specs.Classes.{chunks, own, lowest}
-use Rattle.model.specs.State.{Page, slab, inside, Run, Tally, State}
+use Rattle.model.specs.Classes.{chunks, own, lowest, hasClear, hasTaken}
+use Rattle.model.specs.State.{Page, slab, Run, Tally, State}
 use Rattle.model.specs.View.{usedOn, usedOf, shown}
 use Rattle.model.specs.WellFormed.{ClassOk, WellFormed}
 use Rattle.model.proofs.Classes.{large-chunks}
@@ -44,15 +43,18 @@ use Rattle.shows.specs.Shows.{Unlisted, ShowsOn, ShowsLinks}
 use Rattle.freeruns.specs.Scene.{Scene}
 use Rattle.freeruns.proofs.Shown.{state-scene}
 use Rattle.popcount.specs.Popcount.{mapBits}
-use Rattle.classes.specs.Classes.{mapWord, marksFrom, marksSet}
+use Rattle.classes.specs.Classes.{mapWord}
 use Rattle.classes.proofs.Numbers.{word-paged, word-recorded, base-paged, base-recorded}
+use Rattle.occupancy.specs.Occupancy.{isFull, lastFree, lastTaken}
+use Rattle.occupancy.proofs.Words.{bits-most}
+use Rattle.occupancy.proofs.Told.{full-is, last-free-is, last-taken-is}
 use Rattle.chunks.specs.Chunks.{listOf, delisted}
 use Rattle.drawing.specs.Draw.{inMap, mappedByte, mapped, draw}
-use Rattle.drawing.proofs.Mapped.{length-mapped}
+use Rattle.drawing.proofs.Mapped.{length-mapped, mapped-keeps}
+use Rattle.drawing.proofs.Records.{paint-keeps}
 use Rattle.drawing.proofs.Drawn.{map-small}
-use Rattle.base.proofs.Count.{sum-ext}
 use Rattle.base.proofs.Search.{least-ext}
-use Rattle.chunklaws.proofs.Counts.{used-frame, total-frame, free-frame, used-none, marks-count}
+use Rattle.chunklaws.proofs.Counts.{used-frame, total-frame, free-frame, used-none}
 use Rattle.chunklaws.specs.Midway.{midway}
 use Rattle.chunklaws.proofs.Maps.{marks-shown, mark-drawn}
 use Rattle.chunklaws.proofs.Next.{fits-map, map-frame, class-drawn, midway-fits, shown-midway, class-same, counts-drawn}
@@ -121,22 +123,34 @@ module _ (m : State) (W : WellFormed m) (few : m .size ≤ 4096) where
         within i l (inl h) = unfold mapBits pick in (rw (lt-ltb c 3 h) l)
         within i l (inr h) = unfold mapBits pick in (rw (le-ltb c 3 h) (omega (arith, large-chunks c h)))
 
-    -- how many are set
-    pub marks-counted : marksSet w (draw w s m) P c p ≡ own c + usedOn c (slab c k)
-    unfolding marksSet marksFrom draw pick
-    marks-counted =
-        rw (lt-ltb (mapWord w P p c + 7) (length (paint w P (stateImage m) S) / 8) (inside (lt? c 3)))
-        (same ∙ marks-count c page-ok)
+    -- how full the page is
+    base : 8 * mapWord w P p c ≡ mapBase w P p c
+    base = ⊎-elim (λ (h : c < 3). rw (word-paged w P p c h, base-paged w P p c h) (omega arith)) (λ (h : 3 ≤ c). rw (word-recorded w P p c h, base-recorded w P p c h)) (lt? c 3)
+
+    in-pool : mapWord w P p c + mapBits c / 64 ≤ length (draw w s m) / 8
+    unfolding draw
+    in-pool = rw (length-paint w P wide (stateImage m) S, length-mapped w m s) (go (lt? c 3))
       where
-        base : 8 * mapWord w P p c ≡ mapBase w P p c
-        base = ⊎-elim (λ (h : c < 3). rw (word-paged w P p c h, base-paged w P p c h) (omega arith)) (λ (h : 3 ≤ c). rw (word-recorded w P p c h, base-recorded w P p c h)) (lt? c 3)
+        go : (c < 3) ⊎ (3 ≤ c) → mapWord w P p c + mapBits c / 64 ≤ length s / 8
+        go (inl h) = rw (word-paged w P p c h) (omega (arith, page-below, bits-most c))
+        go (inr h) = rw (word-recorded w P p c h) (omega (arith, page-below, bits-most c))
 
-        inside : (c < 3) ⊎ (3 ≤ c) → mapWord w P p c + 7 < length (paint w P (stateImage m) S) / 8
-        inside (inl h) = rw (word-paged w P p c h, length-paint w P wide (stateImage m) S, length-mapped w m s) (omega (arith, page-below))
-        inside (inr h) = rw (word-recorded w P p c h, length-paint w P wide (stateImage m) S, length-mapped w m s) (omega (arith, page-below))
+    bytes : Bytes (draw w s m)
+    unfolding draw stateImage
+    bytes = paint-keeps w P (stateImage m) S narrow (omega arith) (state-fits W few) (λ q h. map-small (m .page q)) (mapped-keeps w m s B)
 
-        same : count (mark (paint w P (stateImage m) S) (8 * mapWord w P p c)) (mapBits c) ≡ count k (mapBits c)
-        same = unfold count in rw base (sum-ext _ _ (mapBits c) (λ i l. ap bit (shown-mark i l)))
+    mark-told : (i : ℕ) → i < mapBits c → mark (draw w s m) (8 * mapWord w P p c) i ≡ k i
+    unfolding draw
+    mark-told i l = ap (λ (x : ℕ). mark (paint w P (stateImage m) S) x i) base ∙ shown-mark i l
+
+    pub full-told : isFull (draw w s m) (mapWord w P p c) c ≡ not (hasClear c k)
+    full-told = full-is (draw w s m) bytes (mapWord w P p c) c in-pool k mark-told (page-ok .past-clear)
+
+    pub last-free-told : (i : ℕ) → k i ≡ false → lastFree (draw w s m) (mapWord w P p c) c i ≡ not (hasClear c (upd k i true))
+    last-free-told i = last-free-is (draw w s m) bytes (mapWord w P p c) c in-pool k mark-told (page-ok .past-clear) i
+
+    pub last-taken-told : (i : ℕ) → own c ≤ i → i < chunks c → k i ≡ true → lastTaken (draw w s m) (mapWord w P p c) c i ≡ not (hasTaken c (upd k i false))
+    last-taken-told i o l t = last-taken-is (draw w s m) bytes (mapWord w P p c) c in-pool k mark-told (page-ok .past-clear) i o l t (page-ok .own-set)
 
     -- ---- the page leaves its list
 

@@ -1,9 +1,9 @@
 -- A chunk is handed out of the first page of its class list: the bytes become the drawing of the next state. Assumes nothing.
 use mathlib.Core.Path.{_≡_, refl, sym, ap, _∙_}
-use mathlib.Core.Logic.{_⊎_, inl, ⊎-elim}
-use mathlib.Core.Bool.{Bool, true, false, cond}
+use mathlib.Core.Logic.{inl, ⊎-elim}
+use mathlib.Core.Bool.{Bool, true, false, not, cond}
 use mathlib.Core.List.{List, _∷_}
-use Prim.Native.Nat.{ℕ, suc, _+_, _-_, _*_, _%_, _≤_, _<_}
+use Prim.Native.Nat.{ℕ, suc, _+_, _*_, _%_, _≤_, _<_}
 use native.Mathlib.Omega.{arith}
 use lib.ListN.{length}
 use borrow.Author.Tests.{eq-eqb, ne-eqb}
@@ -33,11 +33,12 @@ use Rattle.rules.proofs.Fits.{state-fits}
 use Rattle.shows.specs.Shows.{Unlisted, ShowsLinks}
 use Rattle.freeruns.proofs.Starts.{keep-every}
 use Rattle.freeruns.proofs.Cut.{shows-written}
-use Rattle.classes.specs.Classes.{marksSet, chunkUsed, countUsed}
+use Rattle.classes.specs.Classes.{mapWord, chunkUsed, countUsed}
+use Rattle.occupancy.specs.Occupancy.{lastFree}
 use Rattle.chunks.specs.Chunks.{classLinks, setAside, fullLeaves, chunkTaken}
 use Rattle.drawing.specs.Draw.{mapped, draw}
 use Rattle.chunklaws.specs.Midway.{midway}
-use Rattle.chunklaws.proofs.Counts.{used-bump, marks-count, marks-few, marks-all}
+use Rattle.chunklaws.proofs.Counts.{used-bump}
 use Rattle.chunklaws.proofs.Lists.{off-list}
 use Rattle.chunklaws.proofs.Remarked as remarked
 
@@ -90,9 +91,6 @@ module _ (w : ℕ) (wide : 2 ≤ w) (narrow : w ≤ 255) (s : List ℕ) (B : Byt
   unfolding markChunk
   Wn = mark-well m W c p rest k on is
 
-  new-ok : ClassOk c k′
-  new-ok = slab-ok (Wn .table) (upd-same (m .page) p (slab c k′))
-
   used-more : usedOn c (slab c k′) ≡ usedOn c (slab c k) + 1
   used-more = used-bump c k k′ i in-use (clear .0) (clear .1) (upd-same k i true) (upd-other k i true)
 
@@ -115,20 +113,20 @@ module _ (w : ℕ) (wide : 2 ≤ w) (narrow : w ≤ 255) (s : List ℕ) (B : Byt
 
   -- ---- the lists
 
-  counted : marksSet w (draw w s m) P c p + 1 ≡ own c + usedOn c (slab c k′)
-  counted = omega (arith, used-more, remarked.marks-counted m W few w wide narrow s B room p c k is)
+  last : (b : Bool) → hasClear c k′ ≡ b → lastFree (draw w s m) (mapWord w P p c) c i ≡ not b
+  last b h = remarked.last-free-told m W few w wide narrow s B room p c k is i (clear .1) ∙ ap not h
 
-  stays : hasClear c k′ ≡ true → fullLeaves w (draw w s m) c p (marksSet w (draw w s m) P c p) ≡ paint w P (midway m (n l)) S
+  stays : hasClear c k′ ≡ true → fullLeaves w (draw w s m) c p (lastFree (draw w s m) (mapWord w P p c) c i) ≡ paint w P (midway m (n l)) S
   unfolding fullLeaves pick
   stays h =
-      rw (ne-eqb (marksSet w (draw w s m) P c p + 1) (chunks c) (λ e. omega (arith, counted, marks-count c new-ok, marks-few c new-ok h)))
+      rw (last true h)
       (remarked.list-stays m W few w wide narrow s B room p c k is i true (clear .0) l (n l .tally) Wn (on ∙ rw h))
 
-  leaves : hasClear c k′ ≡ false → fullLeaves w (draw w s m) c p (marksSet w (draw w s m) P c p) ≡ paint w P (midway m (n l)) S
+  leaves : hasClear c k′ ≡ false → fullLeaves w (draw w s m) c p (lastFree (draw w s m) (mapWord w P p c) c i) ≡ paint w P (midway m (n l)) S
   unfolding fullLeaves pick setAside
   leaves h =
       rw (
-        eq-eqb (marksSet w (draw w s m) P c p + 1) (chunks c) (counted ∙ sym (marks-count c new-ok) ∙ marks-all c new-ok h),
+        last false h,
         remarked.delisted-drawn m W few w wide narrow s B room p c k is listed,
         links-paint w P wide J S p (classLinks c) below,
       )

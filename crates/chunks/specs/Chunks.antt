@@ -1,14 +1,13 @@
 -- The operations on the chunks of class pages, in the bytes of a pool of P pages. Assumes nothing.
 -- Each changes the lists first, then the map, and the class record last. w is the number of words of a class record.
 use Prim.Native.Nat.{ℕ, _+_, _/_, _%_}
-use mathlib.Core.Bool.{true, false}
+use mathlib.Core.Bool.{Bool, true, false}
 use mathlib.Core.List.{List}
-use lib.Dec.{eqb}
 use Rattle.base.specs.Tests.{pick}
 use Rattle.records.specs.Layout.{noPage}
 use Rattle.records.specs.declared.Links.{Links}
 use Rattle.records.specs.Page.{linksAt, withLinks}
-use Rattle.model.specs.Classes.{chunks, own}
+use Rattle.model.specs.Classes.{own}
 use Rattle.bitmaps.specs.Bitmap.{withMark, withNewMap}
 use Rattle.lists.specs.Links.{unlinked, pushed}
 use Rattle.rules.specs.Drawn.{links}
@@ -16,7 +15,8 @@ use Rattle.rules.specs.Bytes.{mapBase}
 use Rattle.extents.specs.Extents.{frontPage}
 use Rattle.coalesce.specs.Release.{pagesReleased}
 use Rattle.popcount.specs.Popcount.{mapBits}
-use Rattle.classes.specs.Classes.{marksSet, countUsed, countPageUsed, countBack, countPageBack}
+use Rattle.occupancy.specs.Occupancy.{isFull, lastFree, lastTaken}
+use Rattle.classes.specs.Classes.{mapWord, countUsed, countPageUsed, countBack, countPageBack}
 
 -- ---- class lists
 
@@ -40,19 +40,19 @@ setAside w s c p = withLinks w (delisted w s c p) p (classLinks c)
 unfoldable pub enlisted : ℕ → List ℕ → ℕ → ℕ → List ℕ
 enlisted w s c p = pushed w s (listOf c) p (classLinks c)
 
--- page p, with n marks set, is to have one more: if that makes it full it leaves the list
-unfoldable pub fullLeaves : ℕ → List ℕ → ℕ → ℕ → ℕ → List ℕ
-fullLeaves w s c p n = pick (eqb (n + 1) (chunks c)) (setAside w s c p) s
+-- page p is to have one chunk more taken: if that makes it full it leaves the list
+unfoldable pub fullLeaves : ℕ → List ℕ → ℕ → ℕ → Bool → List ℕ
+fullLeaves w s c p last = pick last (setAside w s c p) s
 
--- page p, with n marks set, is to have one fewer: if it was full it returns to the head of the list
-unfoldable pub fullReturns : ℕ → List ℕ → ℕ → ℕ → ℕ → List ℕ
-fullReturns w s c p n = pick (eqb n (chunks c)) (enlisted w s c p) s
+-- page p is to have one chunk fewer taken: if it was full it returns to the head of the list
+unfoldable pub fullReturns : ℕ → List ℕ → ℕ → ℕ → Bool → List ℕ
+fullReturns w s c p full = pick full (enlisted w s c p) s
 
 -- ---- the operations
 
 -- chunk i of page p, the first on the list of class c, is handed out
 unfoldable pub chunkTaken : ℕ → List ℕ → ℕ → ℕ → ℕ → ℕ → List ℕ
-chunkTaken w s P c p i = countUsed w (withMark (fullLeaves w s c p (marksSet w s P c p)) (mapBase w P p c) i true) c
+chunkTaken w s P c p i = countUsed w (withMark (fullLeaves w s c p (lastFree s (mapWord w P p c) c i)) (mapBase w P p c) i true) c
 
 -- the whole map of page p, which is new: the map's own chunks and the first after them are taken
 unfoldable pub newMapAt : ℕ → List ℕ → ℕ → ℕ → ℕ → List ℕ
@@ -62,17 +62,14 @@ newMapAt w s P c p = withNewMap s (mapBase w P p c) (mapBits c / 8) (own c + 1)
 unfoldable pub pageCut : ℕ → List ℕ → ℕ → ℕ → ℕ → List ℕ
 pageCut w s P c p = countPageUsed w (newMapAt w (enlisted w (frontPage w s p) c p) P c p) c
 
--- chunk i of page p comes back and others stay taken; n marks of the page were set
-unfoldable pub chunkKept : ℕ → List ℕ → ℕ → ℕ → ℕ → ℕ → ℕ → List ℕ
-chunkKept w s P c p i n = countBack w (withMark (fullReturns w s c p n) (mapBase w P p c) i false) c
+-- chunk i of page p comes back and others stay taken
+unfoldable pub chunkKept : ℕ → List ℕ → ℕ → ℕ → ℕ → ℕ → List ℕ
+chunkKept w s P c p i = countBack w (withMark (fullReturns w s c p (isFull s (mapWord w P p c) c)) (mapBase w P p c) i false) c
 
 -- the last chunk i of page p comes back: the page leaves the list and is released
 unfoldable pub pageDropped : ℕ → List ℕ → ℕ → ℕ → ℕ → ℕ → List ℕ
 pageDropped w s P c p i = countPageBack w (withMark (pagesReleased w (delisted w s c p) P p 1) (mapBase w P p c) i false) c
 
--- chunk i of page p comes back; it is the last where one more than the map's own are marked
-unfoldable pub freedOf : ℕ → List ℕ → ℕ → ℕ → ℕ → ℕ → ℕ → List ℕ
-freedOf w s P c p i n = pick (eqb n (own c + 1)) (pageDropped w s P c p i) (chunkKept w s P c p i n)
-
+-- chunk i of page p comes back
 unfoldable pub chunkFreed : ℕ → List ℕ → ℕ → ℕ → ℕ → ℕ → List ℕ
-chunkFreed w s P c p i = freedOf w s P c p i (marksSet w s P c p)
+chunkFreed w s P c p i = pick (lastTaken s (mapWord w P p c) c i) (pageDropped w s P c p i) (chunkKept w s P c p i)

@@ -26,20 +26,20 @@ pub fn enlist(pool: &mut [u8], w: u8, c: u8, p: PageNumber)
     relinking::push_front(pool, w, chunks::list_of(c), p, chunks::class_links(c));
 }
 
-// Page p, with n marks set, is to have one more: if that makes it full it leaves the list.
-pub fn leave_if_full(pool: &mut [u8], w: u8, c: u8, p: PageNumber, n: u16)
-    ensures { λ _. ⌜ now (pool .exit) ≡ fullLeaves w (now (pool .entry)) c (p .0) n ⌝ }
+// Page p is to have one chunk more taken: if that is its last the page leaves the list.
+pub fn leave_if_full(pool: &mut [u8], w: u8, c: u8, p: PageNumber, last: bool)
+    ensures { λ _. ⌜ now (pool .exit) ≡ fullLeaves w (now (pool .entry)) c (p .0) last ⌝ }
 {
-    if chunks::is_last_free(c, n) {
+    if last {
         set_aside(pool, w, c, p);
     }
 }
 
-// Page p, with n marks set, is to have one fewer: if it was full it returns to the head of the list.
-pub fn return_if_full(pool: &mut [u8], w: u8, c: u8, p: PageNumber, n: u16)
-    ensures { λ _. ⌜ now (pool .exit) ≡ fullReturns w (now (pool .entry)) c (p .0) n ⌝ }
+// Page p is to have one chunk fewer taken: if it was full it returns to the head of the list.
+pub fn return_if_full(pool: &mut [u8], w: u8, c: u8, p: PageNumber, full: bool)
+    ensures { λ _. ⌜ now (pool .exit) ≡ fullReturns w (now (pool .entry)) c (p .0) full ⌝ }
 {
-    if chunks::is_full(c, n) {
+    if full {
         enlist(pool, w, c, p);
     }
 }

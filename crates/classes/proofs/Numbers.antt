@@ -1,8 +1,11 @@
 -- The nine classes' numbers, as the code has them. Assumes nothing.
 use mathlib.Core.Path.{_≡_, refl}
+use mathlib.Core.Logic.{_≢_}
 use mathlib.Core.Bool.{false, not}
-use Prim.Native.Nat.{ℕ, zero, suc, _+_, _-_, _*_, _/_, _^_, _≤_, _<_}
+use Prim.Native.Nat.{ℕ, zero, suc, _+_, _-_, _*_, _/_, _%_, _^_, _≤_, _<_}
 use native.Mathlib.Omega.{arith}
+use borrow.Author.Needs.{needs}
+use lib.Pow.{pow-pos, pow-mono}
 use lib.Dec.{eqb}
 use borrow.Author.Tests.{lt-ltb, le-ltb, eqb-true, not-false}
 use Rattle.base.specs.Tests.{pick}
@@ -14,7 +17,15 @@ use Rattle.model.specs.State.{most}
 use Rattle.model.specs.Calls.{raise}
 use Rattle.rules.specs.Bytes.{mapBase}
 use Rattle.popcount.specs.Popcount.{mapBits}
-use Rattle.classes.specs.Classes.{mapWord}
+use Rattle.classes.specs.Classes.{mapWord, ownWord}
+
+pub chunks-some : (c : ℕ) → 1 ≤ chunks c
+unfolding chunks
+chunks-some c = pow-pos (9 - c)
+
+pub chunks-512 : (c : ℕ) → chunks c ≤ 512
+unfolding chunks
+chunks-512 c = let k : 9 - c ≤ 9 = omega arith in pow-mono k
 
 -- one computed test for the nine classes
 shifts : any (λ c. not (eqb (512 / 2 ^ c) (chunks c))) 9 ≡ false
@@ -27,18 +38,6 @@ chunks-shifted c h = eqb-true _ _ (not-false _ (any-false (λ d. not (eqb (512 /
 pub chunks-past : (c : ℕ) → 9 ≤ c → 1 ≡ chunks c
 unfolding chunks
 chunks-past c h = let z : 9 - c ≡ 0 = omega arith in rw z
-
-pub own-8 : (c : ℕ) → c ≡ 0 → 8 ≡ own c
-unfolding own
-own-8 c e = rw e
-
-pub own-16 : (c : ℕ) → c ≡ 1 → 2 ≡ own c
-unfolding own
-own-16 c e = rw e
-
-pub own-32 : (c : ℕ) → c ≡ 2 → 1 ≡ own c
-unfolding own
-own-32 c e = rw e
 
 pub own-past : (c : ℕ) → 3 ≤ c → 0 ≡ own c
 unfolding own
@@ -91,3 +90,40 @@ raise-more n h = rw (lt-ltb n 4294967295 h) (omega arith)
 pub raise-stops : (n : ℕ) → 4294967295 ≤ n → n ≡ raise n
 unfolding raise most
 raise-stops n h = rw (le-ltb n 4294967295 h)
+
+-- the map's own chunks, 16 bits for each class
+pub own-shifted : (c k : ℕ) → (c < 3 → k ≡ c) × (3 ≤ c → k ≡ 3) × (k ≤ 3) → (4295098376 / 2 ^ (16 * k) % 65536 ≡ own c) × (4295098376 / 2 ^ (16 * k) % 65536 ≤ 8)
+unfolding own
+own-shifted zero k h = rw (h .0 (omega arith)) (refl, omega arith)
+own-shifted (suc zero) k h = rw (h .0 (omega arith)) (refl, omega arith)
+own-shifted (suc (suc zero)) k h = rw (h .0 (omega arith)) (refl, omega arith)
+own-shifted (suc (suc (suc c))) k h = rw (h .1 (omega arith)) (refl, omega arith)
+
+pub own-small : (c : ℕ) → own c ≤ 8
+unfolding own
+own-small zero = omega arith
+own-small (suc zero) = omega arith
+own-small (suc (suc zero)) = omega arith
+own-small (suc (suc (suc c))) = omega arith
+
+-- the top bits that mark them
+pub own-word-0 : (c : ℕ) → c ≡ 0 → 18374686479671623680 ≡ ownWord c
+unfolding ownWord own
+own-word-0 c e = rw e
+
+pub own-word-1 : (c : ℕ) → c ≡ 1 → 13835058055282163712 ≡ ownWord c
+unfolding ownWord own
+own-word-1 c e = rw e
+
+pub own-word-2 : (c : ℕ) → c ≡ 2 → 9223372036854775808 ≡ ownWord c
+unfolding ownWord own
+own-word-2 c e = rw e
+
+pub own-word-none : (c : ℕ) → c ≢ 0 → c ≢ 1 → c ≢ 2 → 0 ≡ ownWord c
+unfolding ownWord own
+own-word-none zero a b d = absurd (a refl)
+own-word-none (suc zero) a b d = absurd (b refl)
+own-word-none (suc (suc zero)) a b d = absurd (d refl)
+own-word-none (suc (suc (suc c))) a b d = refl
+
+pub ruleset own-words = (own-word-0, own-word-1, own-word-2, own-word-none, needs)

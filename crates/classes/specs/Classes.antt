@@ -1,18 +1,14 @@
 -- The map of a class page and the record of a class, in the bytes of a pool of P pages. Assumes nothing.
 -- w is the number of words of a class record.
-use Prim.Native.Nat.{ℕ, _+_, _-_, _*_, _/_, _%_}
+use Prim.Native.Nat.{ℕ, _+_, _-_, _*_, _%_, _^_}
 use mathlib.Core.List.{List}
 use lib.Dec.{ltb}
-use lib.ListN.{length}
 use Rattle.base.specs.Tests.{pick}
-use Rattle.base.specs.Count.{count}
 use Rattle.records.specs.Layout.{mapPlace}
 use Rattle.records.specs.declared.ClassRecord.{ClassRecord}
 use Rattle.records.specs.Class.{classAt, withClass}
-use Rattle.model.specs.Classes.{counted}
+use Rattle.model.specs.Classes.{own, counted}
 use Rattle.model.specs.Calls.{raise}
-use Rattle.bitmaps.specs.Bitmap.{mark}
-use Rattle.popcount.specs.Popcount.{mapBits}
 
 -- ---- the map of a page
 
@@ -20,12 +16,9 @@ use Rattle.popcount.specs.Popcount.{mapBits}
 unfoldable pub mapWord : ℕ → ℕ → ℕ → ℕ → ℕ
 mapWord w P p c = pick (ltb c 3) (1 + 9 * w + 2 * P + 512 * p) (mapPlace w p)
 
--- how many of its marks are set; 0 where the map does not lie in the pool
-unfoldable pub marksFrom : List ℕ → ℕ → ℕ → ℕ
-marksFrom s k c = pick (ltb (k + 7) (length s / 8)) (count (mark s (8 * k)) (mapBits c)) 0
-
-unfoldable pub marksSet : ℕ → List ℕ → ℕ → ℕ → ℕ → ℕ
-marksSet w s P c p = marksFrom s (mapWord w P p c) c
+-- the least first word of a map in which the map's own chunks are marked: they have its top bits
+unfoldable pub ownWord : ℕ → ℕ
+ownWord c = (2 ^ own c - 1) * 2 ^ (64 - own c)
 
 -- ---- changes of a class record; its counts have 24 bits, so that no sum is too large
 

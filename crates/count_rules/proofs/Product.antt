@@ -4,7 +4,7 @@ use Prim.Native.Nat.{ℕ, _*_, _≤_, _<_}
 use native.Mathlib.Omega.{arith}
 use native.Mathlib.Nat.{mul-le-mul}
 use Rattle.model.specs.Classes.{chunks}
-use Rattle.tally.proofs.Shares.{chunks-512}
+use Rattle.classes.proofs.Numbers.{chunks-512}
 
 pub total-fits : (x y c : ℕ) → x < 65536 → y ≡ chunks c → x * y < 18446744073709551616
 total-fits x y c h e =

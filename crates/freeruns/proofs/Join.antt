@@ -483,18 +483,6 @@ module _ {P : ℕ} {page : ℕ → Page} {rs : List Run} {ls : ℕ → List ℕ}
   runs′ : RunsOk (λ j. isIdle (page₁ j)) (joinRuns p k rs)
   runs′ = released (T .runs) p k pos busy freed (λ q o. ap isIdle (same q o))
 
-  pub released-scene : Scene P page₁ (joinRuns p k rs) ls
-  released-scene = record {
-    few = T .few;
-    runs = runs′;
-    idle-in = λ q i. go q i (in? p k q);
-    class-in = λ c q l m. (T .class-in c q l m .0, ap isIdle (same q (class-out c q l m)) ∙ T .class-in c q l m .1);
-  }
-    where
-      go : (q : ℕ) → isIdle (page₁ q) ≡ true → ((p ≤ q) × (q < p + k)) ⊎ Out p k q → q < P
-      go q i (inl (u, v)) = omega arith
-      go q i (inr o) = T .idle-in q (ap isIdle (sym (same q o)) ∙ i)
-
   pub released-shows : ShowsLinks P page₁ (joinRuns p k rs) ls (releasedOn J p k (endsAt p rs) (startsAt (p + k) rs))
   unfolding releasedOn
   released-shows =

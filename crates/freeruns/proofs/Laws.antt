@@ -25,7 +25,7 @@ use Rattle.image.proofs.Fits.{Fits, fits-free, fits-links}
 use Rattle.lists.proofs.Paint.{Maybe}
 use Rattle.rules.specs.Drawn.{starts, pageLinks}
 use Rattle.shows.specs.Shows.{ShowsOn, ShowsLinks}
-use Rattle.extents.specs.Extents.{wrap, plain, frontOff, frontPage, runTaken}
+use Rattle.extents.specs.Extents.{wrap, plain, frontOff, runTaken}
 use Rattle.coalesce.specs.Release.{lenFrom, runFrom, rightLen, lenTo, runTo, leftLen, pagesReleased}
 use Rattle.freeruns.specs.OnImage.{frontOn, takenOn, releasedOn}
 use Rattle.freeruns.specs.Scene.{Scene}
@@ -33,7 +33,7 @@ use Rattle.freeruns.proofs.Shown.{body, RunsShown, start-free, runs-sho
 use Rattle.freeruns.proofs.Surgery.{Clear, clear, near-next, near-prev}
 use Rattle.freeruns.proofs.Cut.{run-is, in-pool}
 use Rattle.freeruns.proofs.Join.{free-low, free-on, counted, a-fits, b-fits, close-right, close-left, close-first}
-use Rattle.freeruns.proofs.Paint.{Near, Joins, fits-fill, plain-fits, cut-fits, join-fits, more-paint, front-painted, taken-painted, join-paint}
+use Rattle.freeruns.proofs.Paint.{Near, Joins, fits-fill, plain-fits, cut-fits, more-paint, front-painted, taken-painted, join-paint}
 
 -- ---- the lengths that a release reads
 
@@ -140,10 +140,6 @@ module _ (w P : ℕ) (wide : 2 ≤ w) (narrow : w ≤ 255) {page : ℕ → Page}
       pub front-paint : frontOff w (paint w P J s) (r .start) k ≡ paint w P (frontOn J (r .start) k) s
       front-paint = front-painted w P wide narrow (T .few) s room F (r .start) k (omega (arith, within, C .some-page r mr)) near run-within
 
-      pub page-paint : k ≡ 1 → frontPage w (paint w P J s) (r .start) ≡ paint w P (frontOn J (r .start) k) s
-      unfolding frontPage
-      page-paint e = rw (← e) front-paint
-
       pub taken-paint : runTaken w (paint w P J s) (r .start) k ≡ paint w P (takenOn J (r .start) k) s
       taken-paint =
           taken-painted w P wide narrow (T .few) s room F (r .start) k (omega (arith, within, C .some-page r mr)) (omega (arith, within, fit-found k rs r found .1))
@@ -182,10 +178,6 @@ module _ (w P : ℕ) (wide : 2 ≤ w) (narrow : w ≤ 255) {page : ℕ → Page}
       near-left = λ d. let (x, y) = close-left (T .runs) low R₀ p k pos busy top d in record { prev = maybe _ x; next = maybe _ y };
       near-first = maybe _ (close-first (T .runs) low R₀ p k pos busy top);
     }
-
-    pub released-fits : Fits P (releasedOn J p k a b)
-    unfolding releasedOn
-    released-fits = join-fits w P wide narrow (T .few) (fits-free F (J .freePages + k) few) p k a b joins
 
     -- a page beside the k pages that is not free
     beside : (q : ℕ) → q < P → Out p k q → isIdle (page q) ≡ false → 2 ≤ J .links q .kind

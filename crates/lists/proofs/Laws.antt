@@ -342,21 +342,6 @@ module _ (I : Image) (list : ℕ) (xs : List ℕ) (once : NoDup xs) (pages : (q 
           ∙ ap (λ (x : Links). x .prev .0) (upd-other (I .links) p (between l noPage h) q (not-other q (inr k))))
           O
 
-      pub put-others : (r : ℕ) (l : Links) → Mem r xs → Listed (put I list (I .links r) p l) other ys
-      unfolding put
-      put-others r l m =
-          let a = I .links r .prev .0 in
-          let b = I .links r .next .0 in
-          let J = setLinks I p (between l a b) in
-          linked-frame
-          (λ q k.
-          next-keeps (putNext J list a p) b p q ∙ next-put J list a p (prev-most r m) q ∙ upd-other (nextOf J) _ p q (off q _ k (node-on r m))
-          ∙ next-links I p (between l a b) page q ∙ upd-other (nextOf I) p b q (not-other q k))
-          (λ q k.
-          prev-sets (putNext J list a p) b p q ∙ upd-other (prevOf (putNext J list a p)) b p q (off-none q (low q k) (apart q k) b (after-on r m)) ∙ prev-put J list a p q
-          ∙ ap (λ (x : Links). x .prev .0) (upd-other (I .links) p (between l a b) q (not-other q (inr k))))
-          O
-
 -- ---- nothing but next, previous and first pages changes
 
 pub record Relinked (I J : Image) : Type 0 where

@@ -123,14 +123,3 @@ module _ {size : ℕ} {f f′ : ℕ → Page} (ok : TableOk size f) (a k : ℕ) 
 
           side : (p : ℕ) × (n : ℕ) × (f p ≡ taken n) × (p < j) × (j < p + n) → (p : ℕ) × (n : ℕ) × (f′ p ≡ taken n) × (p < j) × (j < p + n)
           side (p, n, h, l, u) = go p n h l u (in? a k p)
-
--- the page after a taken run is not inside one
-pub run-ends : {size : ℕ} {f : ℕ → Page} → TableOk size f → (p n : ℕ) → f p ≡ taken n → f (p + n) ≢ inside
-run-ends {size} {f} ok p n h e =
-    let (q, m, z, l, u) = ok .owner (p + n) e in
-    go q m z l u (lt? q p) (lt? p q)
-  where
-    go : (q m : ℕ) → f q ≡ taken m → q < p + n → p + n < q + m → (q < p) ⊎ (p ≤ q) → (p < q) ⊎ (q ≤ p) → ⊥
-    go q m z l u (inl a) b = never (cc (ok .inner q m p z a (omega arith)))
-    go q m z l u (inr a) (inl b) = never (cc (ok .inner p n q h b l))
-    go q m z l u (inr a) (inr b) = let y : q ≡ p = omega arith in let w : m ≡ n = cc in omega arith

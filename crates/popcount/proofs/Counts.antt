@@ -91,10 +91,10 @@ module _ (m : ℕ → Bool) (c r : ℕ) where
   unfolding mapBits pick chunks
   of-16 e = of-bits 256 (rw e) (omega arith)
 
-  pub of-32 : c ≡ 2 → (r ≡ count m 128) × (r ≤ 128) → (r ≡ count m (mapBits c)) × (r ≤ 512)
+  pub of-32 : c ≤ 2 → c ≢ 0 → c ≢ 1 → (r ≡ count m 128) × (r ≤ 128) → (r ≡ count m (mapBits c)) × (r ≤ 512)
   unfolding mapBits pick chunks
-  of-32 e = of-bits 128 (rw e) (omega arith)
+  of-32 l a b = let e : c ≡ 2 = omega arith in of-bits 128 (rw e) (omega arith)
 
-  pub of-64 : c ≢ 0 → c ≢ 1 → c ≢ 2 → (r ≡ count m 64) × (r ≤ 64) → (r ≡ count m (mapBits c)) × (r ≤ 512)
+  pub of-64 : 2 < c → (r ≡ count m 64) × (r ≤ 64) → (r ≡ count m (mapBits c)) × (r ≤ 512)
   unfolding mapBits pick
-  of-64 x y z = of-bits 64 (rw (le-ltb c 3 (omega arith))) (omega arith)
+  of-64 h = of-bits 64 (rw (le-ltb c 3 h)) (omega arith)

@@ -11,7 +11,7 @@ fn ones(pool: &[u8], k: usize) -> usize
     requires { ⌜ k < length (now pool) / 8 ⌝ }
     ensures { λ r. ⌜ (r ≡ count (mark (now (pool .entry)) (8 * k)) 64) × (r ≤ 64) ⌝ }
 {
-    u64::count_ones(cells::get_word(pool, k)) as usize
+    u64::count_ones(cells::get_word_in(pool, k)) as usize
 }
 
 fn ones2(pool: &[u8], k: usize) -> usize
@@ -40,10 +40,12 @@ pub fn count_marks(pool: &[u8], k: usize, c: u8) -> usize
     requires { ⌜ k + 7 < length (now pool) / 8 ⌝ }
     ensures { λ r. ⌜ (r ≡ count (mark (now (pool .entry)) (8 * k)) (mapBits c)) × (r ≤ 512) ⌝ }
 {
+    if 2 < c {
+        return ones(pool, k);
+    }
     match c {
         0 => ones8(pool, k),
         1 => ones4(pool, k),
-        2 => ones2(pool, k),
-        _ => ones(pool, k),
+        _ => ones2(pool, k),
     }
 }

@@ -6,7 +6,7 @@ use native.Mathlib.Numerals.{add-one}
 use native.Mathlib.Nat.{add-zero}
 use native.Mathlib.Omega.{arith}
 use lib.ListN.{length, getD, drop, set, length-append}
-use lib.Seq.{sets, drop-cons, drop-length, length-sets}
+use lib.Seq.{sets, drop-cons, drop-length}
 use Rattle.printing.specs.Text.{tenTo, digits, places, decimal, phrase, line, written}
 
 sets-append : (s : List ℕ) (n : ℕ) (xs ys : List ℕ) → sets s n (xs ++ ys) ≡ sets (sets s n xs) (n + length xs) ys
@@ -22,10 +22,6 @@ written-none s n = refl
 pub written-append : (s : List ℕ) (n : ℕ) (xs ys : List ℕ) → written s n (xs ++ ys) ≡ written (written s n xs) (n + length xs) ys
 unfolding written
 written-append s n xs ys = sets-append s n xs ys
-
-pub length-written : (s : List ℕ) (n : ℕ) (xs : List ℕ) → length (written s n xs) ≡ length s
-unfolding written
-length-written s n xs = length-sets s n xs
 
 newline-written : (s : List ℕ) (n : ℕ) (xs : List ℕ) → written s n (xs ++ (10 ∷ [])) ≡ set (written s n xs) (n + length xs) 10
 unfolding written

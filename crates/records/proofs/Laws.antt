@@ -106,17 +106,9 @@ pack-unpack-links v h z =
 
 -- ---- what is unpacked fits
 
-pub unpacked-header-fits : (v : ℕ) → HeaderFits (unpackHeader v)
-unfolding unpackHeader
-unpacked-header-fits v = omega arith
-
 pub unpacked-class-fits : (v t : ℕ) → ClassFits (unpackClass v t)
 unfolding unpackClass
 unpacked-class-fits v t = omega arith
-
-pub unpacked-links-fit : (v : ℕ) → LinksFit (unpackLinks v)
-unfolding unpackLinks
-unpacked-links-fit v = omega arith
 
 -- ---- what is packed is a word
 

@@ -20,14 +20,14 @@ use Rattle.rules.specs.Fields.{Fields, kind, class, run, next, prev, fir
 use Rattle.rules.specs.Read.{openAt, headsOf, listOf, withLengths, tallyOf, readFields}
 use Rattle.rules.specs.Rules.{freeIn}
 use Rattle.rules.specs.Plain.{Lists, Head, Open}
-use Rattle.rules.specs.Agree.{Holds, Bounds}
+use Rattle.rules.specs.Agree.{Holds}
 use Rattle.rules.specs.Drawn.{starts, onList, stateImage, stateFields}
 use Rattle.rules.proofs.Linked.{next-off, prev-off}
 use Rattle.rules.proofs.Pages.{open-says, says-open}
 use Rattle.rules.proofs.Rule2.{says-rule2}
 use Rattle.rules.proofs.Rules.{listed-heads, listed-class, says-rule4, says-rule5, says-rule6}
 use Rattle.rules.proofs.Runs.{mem-start, lengths-back, starts-mem, starts-once}
-use Rattle.rules.proofs.Shown.{links-are, map-are, page-back, slab-is, head-is, run-within, run-links, shows-rule2}
+use Rattle.rules.proofs.Shown.{links-are, page-back, slab-is, head-is, run-within, run-links, shows-rule2}
 
 module _ {m : State} (W : WellFormed m) where
   abbrev v : Fields
@@ -104,14 +104,6 @@ module _ {m : State} (W : WellFormed m) where
 
       total : (c : ℕ) → v .image .class c .total ≡ shown (readFields v n) .total c
       total c = unfold stateFields stateImage shown readFields in ap (λ (f : ℕ → Page). totalIn (λ p. kindOf (f p)) n c) (sym pages)
-
-  pub state-bounds : n ≤ noPage → Bounds v n
-  state-bounds few = record {
-    marks = λ p h k. slab-ok (W .table) (slab-is W p h k) .past-clear;
-    maps = λ p h k a b z. map-are W p (slab (class v p) (v .mark p)) (slab-is W p h k) ∙ pick-no _ _ _ (le-ltb (class v p) 3 a);
-    reqs = λ c h. unfold stateFields stateImage in (W .tallies c .reqs-fit);
-    fails = λ c h. unfold stateFields stateImage in (W .tallies c .fails-fit);
-  }
 
   -- ---- the state is read back
   runs-back : withLengths (run v) (headsOf v n) ≡ m .runs

@@ -1,130 +1,144 @@
-// Rule 2 for the pages of free runs and of taken runs.
+// Rule 2 for free runs and taken runs, a run at a time: the pages after its first are told by their words.
 ghost use mathlib.Core.Path.{_≡_};
-ghost use mathlib.Core.List.{[], _∷_};
-ghost use Prim.Native.Nat.{_-_, _≤_, _<_};
-ghost use lib.Dec.{eqb, leb, ltb};
-ghost use Rattle.base.specs.Tests.{allOf};
-ghost use Rattle.rules.specs.Fields.{kind, map};
-ghost use Rattle.rules.specs.Rules.{insideFree, endsFree, lastBack, firstFree, endsTaken, firstTaken, insideTaken};
+ghost use Prim.Native.Nat.{_+_, _≤_, _<_};
+ghost use Rattle.records.specs.Page.{unpackLinks};
+ghost use Rattle.rules.specs.Rules.{endsFree, endsTaken};
 ghost use Rattle.rules.specs.Bytes.{fieldsOf};
+ghost use Rattle.runs.specs.Whole.{plainAt, plainFrom, lastPlain, freeInside, freeRest, freeWhole, takenRest, takenWhole};
 
-fn inside_fields(pool: &[u8], w: u8, n: usize, p: usize) -> bool
-    requires { ⌜ (n ≤ 65535) × (p < n) ⌝ }
-    ensures { λ r. ⌜ r ≡ insideFree (fieldsOf w (now (pool .entry))) n p ⌝ }
+// The links of a page inside a free run, but for its last: next and previous none, the rest 0.
+const INSIDE_FREE: u64 = 2199023255040;
+// Of the last page of the run that page 0 begins; previous is from bit 9 on.
+const LAST_FREE: u64 = 2198989701120;
+// Of a page inside a taken run: kind 4, next and previous none, the rest 0.
+const INSIDE_TAKEN: u64 = 9223374235878030848;
+
+// Whether page p has the links of the word v and no map.
+fn plain_at(pool: &[u8], w: u8, p: usize, v: u64) -> bool
+    requires { ⌜ p ≤ 131072 ⌝ }
+    ensures { λ r. ⌜ r ≡ plainAt w (now (pool .entry)) v p ⌝ }
 {
-    let l = fields::links_of(pool, w, p);
+    let links = fields::links_word(pool, w, p);
     let map = fields::map_of(pool, w, p);
-    let before = fields::kind_of(pool, w, tests::minus(p, 1));
-    let inner = spans::kind_at(pool, w, n, 0, p + 1);
-    let back = tests::implies(inner, l.prev.0 == 65535);
-    tests::all7(
-        l.class == 0,
-        l.run == 0,
-        map == 0,
-        l.next.0 == 65535,
-        0 < p,
-        before <= 1,
-        back,
-    )
+    tests::both(links == v, map == 0)
 }
 
-// What is left to test of a page inside a free run whose links are all 0 or none.
-fn inside_plain(pool: &[u8], w: u8, p: usize) -> bool
-    requires { ⌜ p ≤ 65535 ⌝ }
-    ensures { λ r. ⌜ r ≡ allOf (eqb (map (fieldsOf w (now (pool .entry))) p) 0 ∷ ltb 0 p ∷ leb (kind (fieldsOf w (now (pool .entry))) (p - 1)) 1 ∷ []) ⌝ }
+// Whether the `count` pages from `start` on have: the first that has not ends the loop.
+fn plain_from(pool: &[u8], w: u8, start: usize, count: usize, v: u64) -> bool
+    requires { ⌜ start + count ≤ 65536 ⌝ }
+    ensures { λ r. ⌜ r ≡ plainFrom w (now (pool .entry)) v start count ⌝ }
 {
-    let map = fields::map_of(pool, w, p);
-    let before = fields::kind_of(pool, w, tests::minus(p, 1));
-    tests::all3(map == 0, 0 < p, before <= 1)
-}
-
-// All pages inside a long free run but the last have the same links: one comparison tests them.
-pub fn inside_free(pool: &[u8], w: u8, n: usize, p: usize) -> bool
-    requires { ⌜ (n ≤ 65535) × (p < n) ⌝ }
-    ensures { λ r. ⌜ r ≡ insideFree (fieldsOf w (now (pool .entry))) n p ⌝ }
-{
-    if fields::links_word(pool, w, p) == 2199023255040 {
-        return inside_plain(pool, w, p);
+    let mut i = 0;
+    while i < count {
+        if !plain_at(pool, w, start + i, v) {
+            return false;
+        }
+        i += 1;
     }
-    inside_fields(pool, w, n, p)
+    true
 }
 
+// Whether no free page stands at x.
 fn ends_free(pool: &[u8], w: u8, n: usize, x: usize) -> bool
     requires { ⌜ n ≤ 65535 ⌝ }
     ensures { λ r. ⌜ r ≡ endsFree (fieldsOf w (now (pool .entry))) n x ⌝ }
 {
     if x < n {
-        return spans::kind_over(pool, w, x, 1);
+        return 1 < fields::kind_of(pool, w, x);
     }
     true
 }
 
-fn last_back(pool: &[u8], w: u8, p: usize, k: usize) -> bool
+// Whether the last of the k free pages from p on leads back to p, where there are two or more.
+fn last_plain(pool: &[u8], w: u8, p: usize, k: usize) -> bool
     requires { ⌜ (p ≤ 65535) × (k ≤ 65535) ⌝ }
-    ensures { λ r. ⌜ r ≡ lastBack (fieldsOf w (now (pool .entry))) p k ⌝ }
+    ensures { λ r. ⌜ r ≡ lastPlain w (now (pool .entry)) p k ⌝ }
 {
     if 1 < k {
-        return spans::prev_is(pool, w, p + k - 1, p);
+        return plain_at(pool, w, p + k - 1, LAST_FREE + 512 * p as u64);
     }
     true
 }
 
-pub fn first_free(pool: &[u8], w: u8, n: usize, p: usize) -> bool
-    requires { ⌜ (n ≤ 65535) × (p < n) ⌝ }
-    ensures { λ r. ⌜ r ≡ firstFree (fieldsOf w (now (pool .entry))) n p ⌝ }
+// The pages after the first.
+fn free_inside(pool: &[u8], w: u8, p: usize, k: usize) -> bool
+    requires { ⌜ p + k ≤ 65535 ⌝ }
+    ensures { λ r. ⌜ r ≡ freeInside w (now (pool .entry)) p k ⌝ }
 {
-    let l = fields::links_of(pool, w, p);
-    let map = fields::map_of(pool, w, p);
-    let k = l.run as usize;
-    let fits = spans::run_fits(pool, w, n, p, k, 0);
-    let ends = ends_free(pool, w, n, p + k);
-    let back = last_back(pool, w, p, k);
-    tests::all5(l.class == 0, map == 0, fits, ends, back)
+    if last_plain(pool, w, p, k) {
+        plain_from(pool, w, p + 1, tests::minus(k, 2), INSIDE_FREE)
+    } else {
+        false
+    }
 }
 
+// And the page after the run.
+fn free_rest(pool: &[u8], w: u8, n: usize, p: usize, k: usize) -> bool
+    requires { ⌜ (n ≤ 65535) × (p + k ≤ n) ⌝ }
+    ensures { λ r. ⌜ r ≡ freeRest w (now (pool .entry)) n p k ⌝ }
+{
+    if ends_free(pool, w, n, p + k) {
+        free_inside(pool, w, p, k)
+    } else {
+        false
+    }
+}
+
+// Whether the free run that page p begins, with the links of the word v, keeps rule 2.
+pub fn free_whole(pool: &[u8], w: u8, n: usize, p: usize, v: u64) -> bool
+    requires { ⌜ (n ≤ 65535) × (p < n) ⌝ }
+    ensures { λ r. ⌜ r ≡ freeWhole w (now (pool .entry)) n p (unpackLinks v) ⌝ }
+{
+    let l = page_records::unpack_links(v);
+    let k = l.run as usize;
+    let map = fields::map_of(pool, w, p);
+    if tests::all4(l.class == 0, map == 0, 0 < k, p + k <= n) {
+        free_rest(pool, w, n, p, k)
+    } else {
+        false
+    }
+}
+
+// Whether no page inside a taken run stands at x.
 fn ends_taken(pool: &[u8], w: u8, n: usize, x: usize) -> bool
     requires { ⌜ n ≤ 65535 ⌝ }
     ensures { λ r. ⌜ r ≡ endsTaken (fieldsOf w (now (pool .entry))) n x ⌝ }
 {
     if x < n {
-        return !spans::kind_is(pool, w, x, 4);
+        return fields::kind_of(pool, w, x) != 4;
     }
     true
 }
 
-pub fn first_taken(pool: &[u8], w: u8, n: usize, p: usize) -> bool
-    requires { ⌜ (n ≤ 65535) × (p < n) ⌝ }
-    ensures { λ r. ⌜ r ≡ firstTaken (fieldsOf w (now (pool .entry))) n p ⌝ }
+fn taken_rest(pool: &[u8], w: u8, n: usize, p: usize, k: usize) -> bool
+    requires { ⌜ (n ≤ 65535) × (0 < k) × (p + k ≤ n) ⌝ }
+    ensures { λ r. ⌜ r ≡ takenRest w (now (pool .entry)) n p k ⌝ }
 {
-    let l = fields::links_of(pool, w, p);
-    let map = fields::map_of(pool, w, p);
-    let k = l.run as usize;
-    let fits = spans::run_fits(pool, w, n, p, k, 4);
-    let ends = ends_taken(pool, w, n, p + k);
-    tests::all6(
-        l.class == 0,
-        map == 0,
-        l.next.0 == 65535,
-        l.prev.0 == 65535,
-        fits,
-        ends,
-    )
+    if ends_taken(pool, w, n, p + k) {
+        plain_from(pool, w, p + 1, k - 1, INSIDE_TAKEN)
+    } else {
+        false
+    }
 }
 
-pub fn inside_taken(pool: &[u8], w: u8, p: usize) -> bool
-    requires { ⌜ p ≤ 65535 ⌝ }
-    ensures { λ r. ⌜ r ≡ insideTaken (fieldsOf w (now (pool .entry))) p ⌝ }
+// Whether the taken run that page p begins, with the links of the word v, keeps rule 2.
+pub fn taken_whole(pool: &[u8], w: u8, n: usize, p: usize, v: u64) -> bool
+    requires { ⌜ (n ≤ 65535) × (p < n) ⌝ }
+    ensures { λ r. ⌜ r ≡ takenWhole w (now (pool .entry)) n p (unpackLinks v) ⌝ }
 {
-    let l = fields::links_of(pool, w, p);
+    let l = page_records::unpack_links(v);
+    let k = l.run as usize;
     let map = fields::map_of(pool, w, p);
-    let before = fields::kind_of(pool, w, tests::minus(p, 1));
-    tests::all7(
+    if tests::all6(
         l.class == 0,
-        l.run == 0,
         map == 0,
         l.next.0 == 65535,
         l.prev.0 == 65535,
-        0 < p,
-        2 < before,
-    )
+        0 < k,
+        p + k <= n,
+    ) {
+        taken_rest(pool, w, n, p, k)
+    } else {
+        false
+    }
 }

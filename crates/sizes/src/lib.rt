@@ -4,44 +4,17 @@ use records::PageNumber;
 ghost use mathlib.Core.Path.{_≡_};
 ghost use Prim.Native.Nat.{_+_, _*_, _≤_};
 ghost use Rattle.model.specs.Classes.{chunk, pagesFor};
-ghost use Rattle.sizes.specs.Sizes.{upTo64, upTo2048, classFor};
+ghost use Rattle.sizes.specs.Sizes.{classFor};
 
-fn up_to_64(size: u32) -> u8
-    ensures { λ r. ⌜ (r ≡ upTo64 size) × (r ≤ 8) ⌝ }
+// The smallest class whose chunk holds the size: by the count of leading zeros, without a choice for each class.
+pub fn class_for(size: u32) -> u8
+    requires { ⌜ size ≤ 2048 ⌝ }
+    ensures { λ r. ⌜ (r ≡ classFor size) × (r ≤ 8) ⌝ }
 {
     if size <= 8 {
         return 0;
     }
-    if size <= 16 {
-        return 1;
-    }
-    if size <= 32 { 2 } else { 3 }
-}
-
-fn up_to_2048(size: u32) -> u8
-    ensures { λ r. ⌜ (r ≡ upTo2048 size) × (r ≤ 8) ⌝ }
-{
-    if size <= 128 {
-        return 4;
-    }
-    if size <= 256 {
-        return 5;
-    }
-    if size <= 512 {
-        return 6;
-    }
-    if size <= 1024 { 7 } else { 8 }
-}
-
-// The smallest class whose chunk holds the size, for a size up to 2,048.
-pub fn class_for(size: u32) -> u8
-    ensures { λ r. ⌜ (r ≡ classFor size) × (r ≤ 8) ⌝ }
-{
-    if size <= 64 {
-        up_to_64(size)
-    } else {
-        up_to_2048(size)
-    }
+    (29 - u32::leading_zeros(size - 1)) as u8
 }
 
 // The size over 4,096, rounded up.

@@ -1,103 +1,71 @@
--- The answers of a `match` on a class or a kind. Assumes nothing.
-use mathlib.Core.Path.{_≡_, refl, sym, _∙_}
-use mathlib.Core.Logic.{_≢_}
-use mathlib.Core.Bool.{Bool, true, false}
-use Prim.Native.Nat.{ℕ, zero, suc, _-_, _%_, _^_, _≤_}
+-- The map of a class page, where it lies in the page and where in the record.
+use mathlib.Core.Path.{_≡_, refl, sym, ap, _∙_}
+use mathlib.Core.Logic.{⊎-elim}
+use mathlib.Core.Bool.{Bool, true, false, not}
+use mathlib.Core.List.{List, [], _∷_}
+use Prim.Native.Nat.{ℕ, _+_, _-_, _*_, _/_, _%_, _^_, _≤_, _<_}
 use native.Mathlib.Omega.{arith}
-use lib.Dec.{eqb}
-use borrow.Author.Needs.{needs}
-use borrow.Author.Tests.{lt-ltb, le-ltb, eq-eqb}
-use Rattle.base.specs.Tests.{pick}
+use lib.Dec.{eqb, leb}
+use lib.Pow.{pow-pos}
+use borrow.Author.Tests.{lt-ltb, le-ltb, eqb-true, not-false}
+use Rattle.base.specs.Tests.{pick, allOf, allBelow}
+use Rattle.base.specs.Search.{least, any}
+use Rattle.base.proofs.Search.{any-false}
+use Rattle.base.proofs.Cases.{lt?}
 use Rattle.model.specs.Classes.{chunks, own}
-use Rattle.rules.specs.Rules.{mapFits, byKind}
-use Rattle.slabs.specs.Own.{ownWord}
+use Rattle.rules.specs.Fields.{class, run, map}
+use Rattle.rules.specs.Rules.{mapFits, classWith, classPage}
+use Rattle.rules.specs.Bytes.{markAt, imageOf, fieldsOf}
+use Rattle.classes.proofs.Numbers.{chunks-past, own-past}
+use Rattle.slabs.specs.Holds.{mapHolds}
 
--- ---- the own marks
+-- ---- in the page
 
-pub own-word-0 : (c : ℕ) → c ≡ 0 → 18374686479671623680 ≡ ownWord c
-unfolding ownWord own
-own-word-0 c e = rw e
+pub paged : (w : ℕ) (s : List ℕ) (p c x : ℕ) (a r : Bool) → c < 3 → a ≡ allBelow (markAt w s p c) (own c) → x ≡ map (fieldsOf w s) p → r ≡ pick a (eqb x 0) false → r ≡ mapHolds w s p c
+unfolding mapHolds mapFits pick
+paged w s p c x a r h e d q = q ∙ rw (e, d, lt-ltb c 3 h)
 
-pub own-word-1 : (c : ℕ) → c ≡ 1 → 13835058055282163712 ≡ ownWord c
-unfolding ownWord own
-own-word-1 c e = rw e
+-- ---- in the record: the unit above the unused bits
 
-pub own-word-2 : (c : ℕ) → c ≡ 2 → 9223372036854775808 ≡ ownWord c
-unfolding ownWord own
-own-word-2 c e = rw e
+unit-few : (c : ℕ) → c < 10 → eqb (9223372036854775808 / 2 ^ (chunks (c - 3 + 3) - 1)) (2 ^ (64 - chunks (c - 3 + 3))) ≡ true
+unfolding any least chunks
+unit-few c h =
+    not-false _ (any-false (λ d. not (eqb (9223372036854775808 / 2 ^ (chunks (d - 3 + 3) - 1)) (2 ^ (64 - chunks (d - 3 + 3))))) 10 refl c h)
 
-pub own-word-none : (c : ℕ) → c ≢ 0 → c ≢ 1 → c ≢ 2 → 0 ≡ ownWord c
-unfolding ownWord own
-own-word-none zero a b d = absurd (a refl)
-own-word-none (suc zero) a b d = absurd (b refl)
-own-word-none (suc (suc zero)) a b d = absurd (d refl)
-own-word-none (suc (suc (suc c))) a b d = refl
+pub unit : (c n : ℕ) → 3 ≤ c → n ≡ chunks c → 9223372036854775808 / 2 ^ (n - 1) ≡ 2 ^ (64 - chunks c)
+unit c n h e = rw e (⊎-elim few past (lt? c 10))
+  where
+    few : c < 10 → 9223372036854775808 / 2 ^ (chunks c - 1) ≡ 2 ^ (64 - chunks c)
+    few l =
+        let z : c - 3 + 3 ≡ c = omega arith in
+        rw z at (eqb-true (9223372036854775808 / 2 ^ (chunks (c - 3 + 3) - 1)) (2 ^ (64 - chunks (c - 3 + 3))) (unit-few c l))
 
-pub ruleset own-words = (own-word-0, own-word-1, own-word-2, own-word-none, needs)
+    past : 10 ≤ c → 9223372036854775808 / 2 ^ (chunks c - 1) ≡ 2 ^ (64 - chunks c)
+    past l = rw (← chunks-past c (omega arith))
 
--- ---- the map field
+pub unit-some : (c n : ℕ) → 3 ≤ c → n ≡ chunks c → 0 < 9223372036854775808 / 2 ^ (n - 1)
+unit-some c n h e = rw (unit c n h e) (pow-pos (64 - chunks c))
 
-module _ (x c : ℕ) where
-  pub fits-none : c ≤ 2 → eqb x 0 ≡ mapFits x c
-  unfolding mapFits pick
-  fits-none h = rw (lt-ltb c 3 (omega arith))
+pub unused : (x c n : ℕ) → 3 ≤ c → n ≡ chunks c → eqb (x % (9223372036854775808 / 2 ^ (n - 1))) 0 ≡ mapFits x c
+unfolding mapFits pick
+unused x c n h e = rw (le-ltb c 3 h, unit c n h e)
 
-  fits-unit : (u : ℕ) → 3 ≤ c → 2 ^ (64 - chunks c) ≡ u → eqb (x % u) 0 ≡ mapFits x c
-  unfolding mapFits pick
-  fits-unit u h e = rw (le-ltb c 3 h, e)
+pub recorded : (w : ℕ) (s : List ℕ) (p c x : ℕ) (r : Bool) → 3 ≤ c → x ≡ map (fieldsOf w s) p → r ≡ mapFits x c → r ≡ mapHolds w s p c
+unfolding mapHolds allBelow pick
+recorded w s p c x r h e q = q ∙ rw (e, ← own-past c h)
 
-  pub fits-3 : c ≡ 3 → true ≡ mapFits x c
-  unfolding chunks
-  fits-3 e = sym (eq-eqb (x % 1) 0 (omega arith)) ∙ fits-unit 1 (omega arith) (rw e)
+-- ---- the page
 
-  pub fits-4 : c ≡ 4 → eqb (x % 4294967296) 0 ≡ mapFits x c
-  unfolding chunks
-  fits-4 e = fits-unit 4294967296 (omega arith) (rw e)
-
-  pub fits-5 : c ≡ 5 → eqb (x % 281474976710656) 0 ≡ mapFits x c
-  unfolding chunks
-  fits-5 e = fits-unit 281474976710656 (omega arith) (rw e)
-
-  pub fits-6 : c ≡ 6 → eqb (x % 72057594037927936) 0 ≡ mapFits x c
-  unfolding chunks
-  fits-6 e = fits-unit 72057594037927936 (omega arith) (rw e)
-
-  pub fits-7 : c ≡ 7 → eqb (x % 1152921504606846976) 0 ≡ mapFits x c
-  unfolding chunks
-  fits-7 e = fits-unit 1152921504606846976 (omega arith) (rw e)
-
-  pub fits-8 : c ≡ 8 → eqb (x % 4611686018427387904) 0 ≡ mapFits x c
-  unfolding chunks
-  fits-8 e = fits-unit 4611686018427387904 (omega arith) (rw e)
-
-  pub fits-past : 9 ≤ c → eqb (x % 9223372036854775808) 0 ≡ mapFits x c
-  unfolding chunks
-  fits-past h = let z : 9 - c ≡ 0 = omega arith in fits-unit 9223372036854775808 (omega arith) (rw z)
-
--- ---- by kind
-
-module _ (k : ℕ) (a b c d e : Bool) {x : Bool} where
-  pub kind-0 : k ≡ 0 → x ≡ a → x ≡ byKind k a b c d e
-  kind-0 z y = rw z y
-
-  pub kind-1 : k ≡ 1 → x ≡ b → x ≡ byKind k a b c d e
-  kind-1 z y = rw z y
-
-  pub kind-2 : k ≡ 2 → x ≡ c → x ≡ byKind k a b c d e
-  kind-2 z y = rw z y
-
-  pub kind-3 : k ≡ 3 → x ≡ d → x ≡ byKind k a b c d e
-  kind-3 z y = rw z y
-
-  pub kind-4 : k ≡ 4 → x ≡ e → x ≡ byKind k a b c d e
-  kind-4 z y = rw z y
-
-pub kind-5 : (k : ℕ) (a b c d e : Bool) → k ≢ 0 → k ≢ 1 → k ≢ 2 → k ≢ 3 → k ≢ 4 → false ≡ byKind k a b c d e
-kind-5 zero a b c d e p q r s t = absurd (p refl)
-kind-5 (suc zero) a b c d e p q r s t = absurd (q refl)
-kind-5 (suc (suc zero)) a b c d e p q r s t = absurd (r refl)
-kind-5 (suc (suc (suc zero))) a b c d e p q r s t = absurd (s refl)
-kind-5 (suc (suc (suc (suc zero)))) a b c d e p q r s t = absurd (t refl)
-kind-5 (suc (suc (suc (suc (suc k))))) a b c d e p q r s t = refl
-
-pub ruleset kinds = (kind-0, kind-1, kind-2, kind-3, kind-4, kind-5, needs)
+module _ (w : ℕ) (s : List ℕ) (p : ℕ) where
+  pub holds-page : (r : Bool) → r ≡ allOf (leb (class (fieldsOf w s) p) 8 ∷ eqb (run (fieldsOf w s) p) 0 ∷ mapHolds w s p (class (fieldsOf w s) p) ∷ []) → r ≡ classPage (fieldsOf w s) p
+  unfolding classPage classWith mapHolds allOf pick fieldsOf imageOf
+  holds-page r q =
+      q
+      ∙ same (leb (class (fieldsOf w s) p) 8) (eqb (run (fieldsOf w s) p) 0) (allBelow (markAt w s p (class (fieldsOf w s) p)) (own (class (fieldsOf w s) p)))
+      (mapFits (map (fieldsOf w s) p) (class (fieldsOf w s) p))
+    where
+      same : (a b m f : Bool) → pick a (pick b (pick (pick m f false) true false) false) false ≡ pick a (pick b (pick m (pick f true false) false) false) false
+      same true true true f = refl
+      same true true false f = refl
+      same true false m f = refl
+      same false b m f = refl

@@ -11,6 +11,7 @@ use lib.ListN.{length}
 use borrow.Author.Tests.{lt-ltb, le-ltb, le-leb, lt-leb, leb-true}
 use Rattle.base.specs.Count.{bit}
 use Rattle.base.specs.Tests.{pick, allBelow}
+use Rattle.base.proofs.AllBelow.{all-same}
 use Rattle.base.proofs.Cases.{lt?, same-test}
 use Rattle.words.specs.Word.{Bytes, word}
 use Rattle.records.specs.Layout.{pagesFrom}
@@ -20,12 +21,8 @@ use Rattle.bitmaps.proofs.Words.{word-marks}
 use Rattle.model.specs.Classes.{chunks, own}
 use Rattle.popcount.proofs.Marked.{own-fits}
 use Rattle.rules.specs.Bytes.{pagesIn, mapBase, markAt}
-use Rattle.slabs.specs.Own.{ownWord}
-
-pub all-ext : (t u : ℕ → Bool) (n : ℕ) → ((i : ℕ) → i < n → t i ≡ u i) → allBelow t n ≡ allBelow u n
-unfolding allBelow
-all-ext t u zero e = refl
-all-ext t u (suc n) e = rw (e n (omega arith), all-ext t u n (λ i l. e i (omega arith)))
+use Rattle.classes.specs.Classes.{ownWord}
+use Rattle.classes.proofs.Numbers.{own-small}
 
 -- a marks are all set where their number is as large as it can be
 all-most : (m : ℕ → Bool) (a : ℕ) → leb (2 ^ a - 1) (bitsOf m a) ≡ allBelow m a
@@ -60,13 +57,6 @@ top-most m a d =
     rw (bits-join m a d)
     (above (2 ^ a - 1) (bitsOf m a) (2 ^ d) (bitsOf (λ i. m (a + i)) d) (bits-small (λ i. m (a + i)) d) ∙ all-most m a)
 
-own-small : (c : ℕ) → own c ≤ 8
-unfolding own
-own-small zero = omega arith
-own-small (suc zero) = omega arith
-own-small (suc (suc zero)) = omega arith
-own-small (suc (suc (suc c))) = omega arith
-
 module _ (w : ℕ) (s : List ℕ) (n p c k : ℕ) (pages : n ≡ pagesIn w s) (h : p < n) (place : 8 * k ≡ mapBase w n p c) where
   -- the map and the words after it lie inside the pool
   pub map-inside : k + 7 < length s / 8
@@ -83,7 +73,7 @@ module _ (w : ℕ) (s : List ℕ) (n p c k : ℕ) (pages : n ≡ pagesIn w s) (h
       let o : own c + (64 - own c) ≡ 64 = omega (arith, own-small c) in
       rw (word-marks s B k (omega (arith, map-inside)))
       (ap (λ (x : ℕ). leb ((2 ^ own c - 1) * 2 ^ (64 - own c)) (bitsOf (mark s (8 * k)) x)) (sym o) ∙ top-most (mark s (8 * k)) (own c) (64 - own c)
-      ∙ all-ext _ _ (own c) (λ i l. same i (omega (arith, own-fits c))))
+      ∙ all-same _ _ (own c) (λ i l. same i (omega (arith, own-fits c))))
     where
       same : (i : ℕ) → i < chunks c → mark s (8 * k) i ≡ pick (ltb i (chunks c)) (mark s (mapBase w (pagesIn w s) p c) i) false
       same i l = unfold pick in rw (lt-ltb i (chunks c) l, place, pages)

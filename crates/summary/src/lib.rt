@@ -16,7 +16,7 @@ fn free_runs(pool: &[u8], w: u8, n: usize) -> u32
     let mut runs: u64 = 0;
     let mut p = 0;
     while p < n {
-        runs += one_if(spans::kind_at(pool, w, n, 1, p));
+        runs += one_if(fields::kind_at(pool, w, n, 1, p));
         p += 1;
     }
     runs as u32

@@ -3,7 +3,7 @@ use mathlib.Core.Path.{_≡_, refl, sym, ap, _∙_}
 use mathlib.Core.Logic.{_⊎_, inl, inr, _≢_}
 use mathlib.Core.Bool.{Bool, true, false, not, false≢true}
 use mathlib.Core.List.{List}
-use Prim.Native.Nat.{ℕ, zero, suc, _+_, _-_, _*_, _^_, _≤_, _<_}
+use Prim.Native.Nat.{ℕ, zero, suc, _+_, _*_, _^_, _≤_, _<_}
 use native.Mathlib.Omega.{arith}
 use native.Mathlib.Nat.{suc-mul}
 use native.Mathlib.Numerals.{add-one}
@@ -21,13 +21,14 @@ use Rattle.records.specs.declared.Links.{Links}
 use Rattle.model.specs.Classes.{chunks, own}
 use Rattle.model.specs.State.{Page, isIdle}
 use Rattle.model.specs.View.{kindOf, isClass, usedOn}
+use Rattle.classes.proofs.Numbers.{chunks-512}
 use Rattle.popcount.proofs.Counts.{count-le}
 use Rattle.rules.specs.Fields.{Fields, kind, class, pageAt}
 use Rattle.rules.specs.Read.{isHead, openAt}
 use Rattle.rules.specs.Rules.{mapFits, classWith, classPage, rule2At, inUse, fullAlone}
 use Rattle.rules.specs.Bytes.{pagesIn, imageOf, fieldsOf}
 use Rattle.tally.specs.Tally.{classShare, freeShare, faultShare, share, Counted, onesAt, classWeight, classFault, addAt, classAdded, kindAdded, pageAdded}
-use Rattle.tally.proofs.Shares.{chunks-512, ones-marks, page-is, plain-share, slab-share}
+use Rattle.tally.proofs.Shares.{ones-marks, page-is, plain-share, slab-share}
 
 -- ---- sums
 
@@ -112,7 +113,7 @@ pub record Slab (w : ℕ) (s : List ℕ) (p : ℕ) : Type 0 where
   pub own-set : allBelow (fieldsOf w s .mark p) (own (class (fieldsOf w s) p)) ≡ true
   pub fits : mapFits (word s (mapPlace w p)) (class (fieldsOf w s) p) ≡ true
 
-slab-of : (w : ℕ) (s : List ℕ) (p : ℕ) → classPage (fieldsOf w s) p ≡ true → Slab w s p
+pub slab-of : (w : ℕ) (s : List ℕ) (p : ℕ) → classPage (fieldsOf w s) p ≡ true → Slab w s p
 unfolding classPage classWith allOf fieldsOf imageOf
 slab-of w s p e =
     let a = both-true _ _ e in
@@ -196,12 +197,6 @@ unfolding sum
 pass-none v n t e z = record { len = e; counted = λ j l. z j }
 
 module _ (w : ℕ) (s : List ℕ) (n p : ℕ) (B : Bytes s) (pages : n ≡ pagesIn w s) (most : n ≤ 4096) (h : p < n) (u : Bool) (fits : u ≡ rule2At (fieldsOf w s) n p) (on : not u ≡ false) where
-  -- a class page that was found to keep rule 2
-  pub class-ok : (l : Links) → l ≡ fieldsOf w s .image .links p → l .kind ≡ 2 → l .class ≤ 8
-  class-ok l e k =
-      let x : Slab w s p = kind-of w s n p 2 (sym fits ∙ not-false u on) (ap (λ (y : Links). y .kind) (sym e) ∙ k) .1 refl in
-      rw e (x .in-range)
-
   pub pass-more : (t t′ : List ℕ) (l : Links) → Passed (fieldsOf w s) n p t → l ≡ fieldsOf w s .image .links p → t′ ≡ pageAdded w s t p l → Passed (fieldsOf w s) n (p + 1) t′
   unfolding sum
   pass-more t t′ l K e d = record {

@@ -3,7 +3,7 @@ use mathlib.Core.Path.{_≡_, refl, sym, ap, _∙_}
 use mathlib.Core.Logic.{_⊎_, inl, inr, _≢_}
 use mathlib.Core.Bool.{Bool, true, false, _&&_, not}
 use mathlib.Core.List.{List}
-use Prim.Native.Nat.{ℕ, _+_, _-_, _*_, _%_, _^_, _≤_, _<_}
+use Prim.Native.Nat.{ℕ, zero, suc, _+_, _-_, _*_, _%_, _^_, _≤_, _<_}
 use native.Mathlib.Omega.{arith}
 use lib.Count as Count
 use lib.Dec.{eqb, leb, ltb}
@@ -16,7 +16,7 @@ use Rattle.base.proofs.Cases.{eq?, lt?}
 use Rattle.words.specs.Word.{Bytes, word}
 use Rattle.records.specs.Layout.{mapPlace, noPage}
 use Rattle.bitmaps.specs.Bitmap.{mark, bitsOf}
-use Rattle.bitmaps.proofs.Bits.{bits-small, bits-join}
+use Rattle.bitmaps.proofs.Bits.{bits-small, bits-join, bits-injective}
 use Rattle.bitmaps.proofs.Words.{word-marks}
 use Rattle.model.specs.Classes.{chunks, own}
 use Rattle.model.specs.State.{Page, idle, slab, taken, inside, edge, isIdle}
@@ -34,22 +34,24 @@ use Rattle.tally.specs.Tally.{classShare, freeShare, faultShare, share, 
 -- ---- the set marks of a page whose map field fits its class
 
 -- marks past the first a are clear where their bits are 0
+tail-none : (m : ℕ → Bool) (a d : ℕ) → bitsOf m (a + d) % 2 ^ d ≡ 0 → bitsOf (λ i. m (a + i)) d ≡ 0
+tail-none m a d e = sym (low (bitsOf m a) d (bits-small (λ i. m (a + i)) d)) ∙ ap (λ (x : ℕ). x % 2 ^ d) (sym (bits-join m a d)) ∙ e
+
+no-bits : (d : ℕ) → bitsOf (λ i. false) d ≡ 0
+unfolding bitsOf
+no-bits zero = refl
+no-bits (suc d) = let z = no-bits d in omega arith
+
 tail-clear : (m : ℕ → Bool) (a d : ℕ) → bitsOf m (a + d) % 2 ^ d ≡ 0 → count m (a + d) ≡ count m a
 unfolding Count.ones Count.onesIn
 tail-clear m a d e =
-    let z : bitsOf (λ i. m (a + i)) d ≡ 0 =
-    sym (low (bitsOf m a) d (bits-small (λ i. m (a + i)) d)) ∙ ap (λ (x : ℕ). x % 2 ^ d) (sym (bits-join m a d)) ∙ e in
-    let y : count (λ i. m (a + i)) d ≡ 0 = sym (ones-bits (λ i. m (a + i)) d) ∙ ap Count.ones z in
+    let y : count (λ i. m (a + i)) d ≡ 0 = sym (ones-bits (λ i. m (a + i)) d) ∙ ap Count.ones (tail-none m a d e) in
     let x = count-join m a d in
     omega arith
 
 chunks-64 : (c : ℕ) → 3 ≤ c → chunks c ≤ 64
 unfolding chunks
 chunks-64 c h = let k : 9 - c ≤ 6 = omega arith in pow-mono k
-
-pub chunks-512 : (c : ℕ) → chunks c ≤ 512
-unfolding chunks
-chunks-512 c = let k : 9 - c ≤ 9 = omega arith in pow-mono k
 
 module _ (w : ℕ) (s : List ℕ) (p c : ℕ) (B : Bytes s) (h : p < pagesIn w s) where
   same-mark : (i : ℕ) → i < chunks c → mark s (mapBase w (pagesIn w s) p c) i ≡ markAt w s p c i
@@ -64,6 +66,26 @@ module _ (w : ℕ) (s : List ℕ) (p c : ℕ) (B : Bytes s) (h : p < pagesIn w s
   field-fits l e =
       let f : eqb (word s (mapPlace w p) % 2 ^ (64 - chunks c)) 0 ≡ true = rw (le-ltb c 3 l) at e in
       rw (le-ltb c 3 l, ← word-marks s B (mapPlace w p) (omega arith)) (eqb-true (word s (mapPlace w p) % 2 ^ (64 - chunks c)) 0 f)
+
+  -- every mark of the map, those past the chunks too
+  pub map-marks : mapFits (word s (mapPlace w p)) c ≡ true → (i : ℕ) → i < mapBits c → mark s (mapBase w (pagesIn w s) p c) i ≡ markAt w s p c i
+  unfolding mapBits pick
+  map-marks e i l = go (lt? i (chunks c)) (lt? c 3)
+    where
+      go : (i < chunks c) ⊎ (chunks c ≤ i) → (c < 3) ⊎ (3 ≤ c) → mark s (mapBase w (pagesIn w s) p c) i ≡ markAt w s p c i
+      go (inl h) k = same-mark i h
+      go (inr h) (inl k) = let x : i < chunks c = rw (lt-ltb c 3 k) at l in absurd (omega arith)
+      go (inr h) (inr k) =
+          let x : i < 64 = rw (le-ltb c 3 k) at l in
+          let z : chunks c + (64 - chunks c) ≡ 64 = omega (arith, chunks-64 c k) in
+          let y : chunks c + (i - chunks c) ≡ i = omega arith in
+          let f : bitsOf (λ j. mark s (mapBase w (pagesIn w s) p c) (chunks c + j)) (64 - chunks c) ≡ 0 =
+          tail-none (mark s (mapBase w (pagesIn w s) p c)) (chunks c) (64 - chunks c) (rw z (field-fits k e)) in
+          let g = bits-injective (λ j. mark s (mapBase w (pagesIn w s) p c) (chunks c + j)) (λ j. false) (64 - chunks c) (f ∙ sym (no-bits (64 - chunks c))) (i - chunks c) (omega arith) in
+          ap (mark s (mapBase w (pagesIn w s) p c)) (sym y) ∙ g ∙ sym (past h)
+        where
+          past : chunks c ≤ i → markAt w s p c i ≡ false
+          past h = unfold markAt pick in rw (le-ltb i (chunks c) h)
 
   pub ones-marks : mapFits (word s (mapPlace w p)) c ≡ true → onesAt w s p c ≡ count (markAt w s p c) (chunks c)
   unfolding onesAt mapBits pick
@@ -145,7 +167,7 @@ module _ (v : Fields) (n p : ℕ) (h : p < n) where
         go (inl l) = rw (lt-ltb (own c) (count m (chunks c)) l, lt-leb (count m (chunks c)) (own c) l)
         go (inr l) = rw (le-ltb (own c) (count m (chunks c)) l, le-leb (count m (chunks c)) (own c) l)
 
-    stray-is : not (fullAlone v n p) ≡ strays c ones (v .image .links p)
+    stray-is : not (fullAlone v n p) ≡ strays c ones (next v p) (prev v p)
     unfolding fullAlone strays pick
     stray-is = rw (d, g, open-is) (go (lt? ones (chunks c)))
       where

@@ -1,11 +1,11 @@
 -- What one pass over the pages counts, in eleven counters: nine for the classes, one for free pages, one for faults. Assumes nothing.
 -- A counter holds up to three counts side by side, so that a page of a class is one addition: from bit 0, from bit 32 and from bit 48 on.
-use Prim.Native.Nat.{ℕ, zero, suc, _+_, _-_, _*_, _%_, _^_, _<_}
+use Prim.Native.Nat.{ℕ, zero, suc, _+_, _-_, _*_, _%_, _^_, _≤_, _<_}
 use mathlib.Core.Path.{_≡_}
-use mathlib.Core.Bool.{Bool, false, not}
+use mathlib.Core.Bool.{Bool, true, false, not}
 use mathlib.Core.List.{List}
 use lib.Dec.{eqb, leb, ltb}
-use lib.ListN.{getD, set}
+use lib.ListN.{length, getD, set}
 use Rattle.base.specs.Tests.{pick}
 use Rattle.base.specs.Count.{bit, sum, count}
 use Rattle.records.specs.Layout.{noPage}
@@ -17,8 +17,9 @@ use Rattle.model.specs.View.{kindOf, isClass, usedOn}
 use Rattle.popcount.specs.Popcount.{mapBits}
 use Rattle.rules.specs.Fields.{Fields, pageAt}
 use Rattle.rules.specs.Read.{isHead, openAt}
-use Rattle.rules.specs.Rules.{inUse, fullAlone}
-use Rattle.rules.specs.Bytes.{pagesIn, mapBase}
+use Rattle.rules.specs.Rules.{rule2At, rule2, inUse, fullAlone}
+use Rattle.rules.specs.Bytes.{pagesIn, mapBase, fieldsOf}
+use Rattle.runs.specs.Whole.{Border}
 
 -- ---- what a page adds, in the words of the rules
 
@@ -42,6 +43,23 @@ share v n j p = pick (ltb j 9) (classShare v n j p) (pick (eqb j 9) (freeShare v
 abbrev pub Counted : Fields → ℕ → ℕ → List ℕ → Type 0
 Counted v n k t = (j : ℕ) → j < 11 → getD t j 0 ≡ sum (share v n j) k
 
+-- page p of n, with the links l and its nine low bits 0
+pub record Here (w : ℕ) (s : List ℕ) (n p : ℕ) (l : Links) : Type 0 where
+  pub pages : n ≡ pagesIn w s
+  pub few : n ≤ 4096
+  pub below : p < n
+  pub is : l ≡ fieldsOf w s .image .links p
+  pub plain : fieldsOf w s .spare p ≡ 0
+
+-- the code went on from page p to page r: the pages between keep rule 2, and the counters t of the pages before p became those of the pages before r
+pub record Steps (v : Fields) (n p r : ℕ) (t t′ : List ℕ) : Type 0 where
+  pub low : p ≤ r
+  pub high : r ≤ n
+  pub stops : r ≡ p → rule2 v n ≡ false
+  pub keeps : (j : ℕ) → p ≤ j → j < r → rule2At v n j ≡ true
+  pub border : p < r → r < n → Border v n r
+  pub counts : p < r → length t ≡ 11 → Counted v n p t → (length t′ ≡ 11) × Counted v n r t′
+
 -- ---- what the code adds
 
 -- the set marks of page p, which has class c
@@ -52,11 +70,11 @@ unfoldable pub classWeight : ℕ → ℕ → ℕ
 classWeight c ones = ones - own c + 4294967296 + 281474976710656 * bit (ltb ones (chunks c))
 
 -- a full page with links
-unfoldable pub strays : ℕ → ℕ → Links → Bool
-strays c ones l = pick (leb (chunks c) ones) (not (pick (eqb (l .next .0) noPage) (eqb (l .prev .0) noPage) false)) false
+unfoldable pub strays : ℕ → ℕ → ℕ → ℕ → Bool
+strays c ones next prev = pick (leb (chunks c) ones) (not (pick (eqb next noPage) (eqb prev noPage) false)) false
 
 unfoldable pub classFault : ℕ → ℕ → Links → ℕ
-classFault c ones l = bit (leb ones (own c)) + 4294967296 * bit (strays c ones l)
+classFault c ones l = bit (leb ones (own c)) + 4294967296 * bit (strays c ones (l .next .0) (l .prev .0))
 
 unfoldable pub addAt : List ℕ → ℕ → ℕ → List ℕ
 addAt t j x = set t j ((getD t j 0 + x) % 2 ^ 64)

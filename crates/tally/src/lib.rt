@@ -1,13 +1,14 @@
-// One pass over the pages: rule 2 at each, and what the other rules need to know of all of them, in eleven counters.
-use records::Links;
+// One pass over the pages, a run or a class page at a time: rule 2, and what the other rules need to know of all pages, in eleven counters.
 ghost use mathlib.Core.Path.{_≡_};
-ghost use mathlib.Core.Bool.{true, false};
-ghost use Prim.Native.Nat.{ℕ, _+_, _-_, _*_, _≤_, _<_};
+ghost use mathlib.Core.Bool.{true};
+ghost use Prim.Native.Nat.{ℕ, _≤_, _<_};
 ghost use lib.ListN.{length, getD};
+ghost use Rattle.records.specs.Page.{unpackLinks};
 ghost use Rattle.model.specs.Classes.{chunks, own};
 ghost use Rattle.rules.specs.Rules.{rule2};
 ghost use Rattle.rules.specs.Bytes.{pagesIn, fieldsOf};
-ghost use Rattle.tally.specs.Tally.{Counted, onesAt, classWeight, strays, classFault, addAt, classAdded, pageAdded};
+ghost use Rattle.runs.specs.Whole.{Border};
+ghost use Rattle.tally.specs.Tally.{Counted, Here, Steps, onesAt, classWeight, strays, classFault, addAt, classAdded};
 
 fn add(t: &mut [u64; 11], j: usize, x: u64)
     requires { ⌜ j < 11 ⌝ }
@@ -52,65 +53,113 @@ fn class_weight(c: u8, ones: usize) -> u64
     used + 4294967296 + 281474976710656 * open
 }
 
-fn strays_of(c: u8, ones: usize, l: Links) -> bool
+// Whether the page is full and has links.
+fn strays_of(c: u8, ones: usize, next: u16, prev: u16) -> bool
     requires { ⌜ c ≤ 8 ⌝ }
-    ensures { λ r. ⌜ r ≡ strays c ones l ⌝ }
+    ensures { λ r. ⌜ r ≡ strays c ones next prev ⌝ }
 {
-    let alone = tests::both(l.next.0 == 65535, l.prev.0 == 65535);
+    let alone = tests::both(next == 65535, prev == 65535);
     tests::both(chunks_of(c) <= ones, !alone)
 }
 
-fn class_fault(c: u8, ones: usize, l: Links) -> u64
+fn class_fault(c: u8, ones: usize, v: u64) -> u64
     requires { ⌜ c ≤ 8 ⌝ }
-    ensures { λ r. ⌜ r ≡ classFault c ones l ⌝ }
+    ensures { λ r. ⌜ r ≡ classFault c ones (unpackLinks v) ⌝ }
 {
+    let l = page_records::unpack_links(v);
     let unused = tests::one_if(ones <= own_of(c));
-    let stray = tests::one_if(strays_of(c, ones, l));
+    let stray = tests::one_if(strays_of(c, ones, l.next.0, l.prev.0));
     unused + 4294967296 * stray
 }
 
-fn add_class(pool: &[u8], w: u8, n: usize, p: usize, l: Links, t: &mut [u64; 11])
-    requires { ⌜ (n ≡ pagesIn w (now pool)) × (p < n) × (n ≤ 65535) × (l .class ≤ 8) ⌝ }
-    ensures { λ _. ⌜ now (t .exit) ≡ classAdded (now (t .entry)) (l .class) (onesAt w (now (pool .entry)) p (l .class)) l ⌝ }
+// The class page p, with the links of the word v.
+fn add_class(pool: &[u8], w: u8, n: usize, p: usize, v: u64, t: &mut [u64; 11])
+    requires { ⌜ (n ≡ pagesIn w (now pool)) × (p < n) × (n ≤ 65535) × (unpackLinks v .class ≤ 8) ⌝ }
+    ensures { λ _. ⌜ now (t .exit) ≡ classAdded (now (t .entry)) (unpackLinks v .class) (onesAt w (now (pool .entry)) p (unpackLinks v .class)) (unpackLinks v) ⌝ }
 {
+    let l = page_records::unpack_links(v);
     let c = l.class;
     let ones = ones_of(pool, w, n, p, c);
     add(t, c as usize, class_weight(c, ones));
-    add(t, 10, class_fault(c, ones, l));
+    add(t, 10, class_fault(c, ones, v));
 }
 
-fn add_page(pool: &[u8], w: u8, n: usize, p: usize, l: Links, t: &mut [u64; 11])
-    requires { ⌜ (n ≡ pagesIn w (now pool)) × (p < n) × (n ≤ 65535) × (l .kind ≡ 2 → l .class ≤ 8) ⌝ }
-    ensures { λ _. ⌜ now (t .exit) ≡ pageAdded w (now (pool .entry)) (now (t .entry)) p l ⌝ }
+// The free run that begins with page p, with the links of the word v; pass_taken and pass_class likewise.
+fn pass_free(pool: &[u8], w: u8, n: usize, p: usize, v: u64, t: &mut [u64; 11]) -> usize
+    requires { ⌜ Here w (now pool) n p (unpackLinks v) × (unpackLinks v .kind ≡ 1) ⌝ }
+    ensures { λ r. ⌜ Steps (fieldsOf w (now (pool .entry))) n p r (now (t .entry)) (now (t .exit)) ⌝ }
 {
+    if !runs::free_whole(pool, w, n, p, v) {
+        return p;
+    }
+    let l = page_records::unpack_links(v);
+    let k = l.run as usize;
+    add(t, 9, 4294967296 + k as u64);
+    p + k
+}
+
+// Nothing of a taken run is counted.
+fn pass_taken(pool: &[u8], w: u8, n: usize, p: usize, v: u64, t: &mut [u64; 11]) -> usize
+    requires { ⌜ Here w (now pool) n p (unpackLinks v) × (unpackLinks v .kind ≡ 3) ⌝ }
+    ensures { λ r. ⌜ Steps (fieldsOf w (now (pool .entry))) n p r (now (t .entry)) (now (t .exit)) ⌝ }
+{
+    if !runs::taken_whole(pool, w, n, p, v) {
+        return p;
+    }
+    let l = page_records::unpack_links(v);
+    p + l.run as usize
+}
+
+fn pass_class(pool: &[u8], w: u8, n: usize, p: usize, v: u64, t: &mut [u64; 11]) -> usize
+    requires { ⌜ Here w (now pool) n p (unpackLinks v) × (unpackLinks v .kind ≡ 2) ⌝ }
+    ensures { λ r. ⌜ Steps (fieldsOf w (now (pool .entry))) n p r (now (t .entry)) (now (t .exit)) ⌝ }
+{
+    if !slabs::class_page(pool, w, n, p) {
+        return p;
+    }
+    add_class(pool, w, n, p, v, t);
+    p + 1
+}
+
+// By the kind of page p. No page inside a run is met here, since runs are passed whole.
+fn pass_kind(pool: &[u8], w: u8, n: usize, p: usize, v: u64, t: &mut [u64; 11]) -> usize
+    requires { ⌜ Here w (now pool) n p (unpackLinks v) × Border (fieldsOf w (now pool)) n p ⌝ }
+    ensures { λ r. ⌜ Steps (fieldsOf w (now (pool .entry))) n p r (now (t .entry)) (now (t .exit)) ⌝ }
+{
+    let l = page_records::unpack_links(v);
     let kind = l.kind;
-    if kind == 0 {
-        add(t, 9, 1);
-        return;
-    }
-    if kind == 1 {
-        add(t, 9, 4294967297);
-        return;
-    }
-    if kind == 2 {
-        add_class(pool, w, n, p, l, t);
-        return;
+    match kind {
+        1 => pass_free(pool, w, n, p, v, t),
+        2 => pass_class(pool, w, n, p, v, t),
+        3 => pass_taken(pool, w, n, p, v, t),
+        _ => p,
     }
 }
 
-// Rule 2; where it holds, the counters are those of all pages. The first page that breaks it ends the pass.
+// Passes the run or the class page that begins with page p, and counts it: the page after it, or p where rule 2 is broken.
+fn pass_next(pool: &[u8], w: u8, n: usize, p: usize, t: &mut [u64; 11]) -> usize
+    requires { ⌜ (n ≡ pagesIn w (now pool)) × (p < n) × (n ≤ 4096) × Border (fieldsOf w (now pool)) n p ⌝ }
+    ensures { λ r. ⌜ Steps (fieldsOf w (now (pool .entry))) n p r (now (t .entry)) (now (t .exit)) ⌝ }
+{
+    let v = fields::links_word(pool, w, p);
+    if v % 512 != 0 {
+        return p;
+    }
+    pass_kind(pool, w, n, p, v, t)
+}
+
+// Rule 2; where it holds, the counters are those of all pages. The first run or class page that breaks it ends the pass.
 pub fn scan(pool: &[u8], w: u8, n: usize, t: &mut [u64; 11]) -> bool
     requires { ⌜ (n ≡ pagesIn w (now pool)) × (n ≤ 4096) × (length (now t) ≡ 11) × ((j : ℕ) → getD (now t) j 0 ≡ 0) ⌝ }
     ensures { λ r. ⌜ (r ≡ rule2 (fieldsOf w (now (pool .entry))) n) × (r ≡ true → Counted (fieldsOf w (now (pool .entry))) n n (now (t .exit))) ⌝ }
 {
     let mut p = 0;
     while p < n {
-        if !slabs::page_fits(pool, w, n, p) {
+        let q = pass_next(pool, w, n, p, t);
+        if q == p {
             return false;
         }
-        let l = fields::links_of(pool, w, p);
-        add_page(pool, w, n, p, l, t);
-        p += 1;
+        p = q;
     }
     true
 }

@@ -43,12 +43,6 @@ pub fn all6(a: bool, b: bool, c: bool, d: bool, e: bool, f: bool) -> bool
     both(a, all5(b, c, d, e, f))
 }
 
-pub fn all7(a: bool, b: bool, c: bool, d: bool, e: bool, f: bool, g: bool) -> bool
-    ensures { λ r. ⌜ r ≡ allOf (a ∷ b ∷ c ∷ d ∷ e ∷ f ∷ g ∷ []) ⌝ }
-{
-    both(a, all6(b, c, d, e, f, g))
-}
-
 // One for a test that holds.
 pub fn one_if(a: bool) -> u64
     ensures { λ r. ⌜ (r ≡ bit a) × (r ≤ 1) ⌝ }

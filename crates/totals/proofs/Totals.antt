@@ -18,7 +18,7 @@ use Rattle.rules.specs.Fields.{Fields, pageAt}
 use Rattle.rules.specs.Read.{isHead, openAt, readFields}
 use Rattle.rules.specs.Rules.{inUse, fullAlone, rule5, freeIn}
 use Rattle.tally.specs.Tally.{classShare, freeShare, faultShare, share, Counted}
-use Rattle.tally.proofs.Shares.{chunks-512}
+use Rattle.classes.proofs.Numbers.{chunks-512}
 use Rattle.tally.proofs.Pass.{sum-le, used-le}
 
 -- ---- sums of shares

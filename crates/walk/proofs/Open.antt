@@ -1,60 +1,87 @@
--- A page on a class list, told by its record and its number of set marks. Assumes nothing.
-use mathlib.Core.Path.{_≡_, refl, sym, _∙_}
+-- A page on a class list, told by its record and the words of its map.
+use mathlib.Core.Path.{_≡_, refl, sym, ap, _∙_}
 use mathlib.Core.Logic.{_⊎_, inl, inr, _≢_}
-use mathlib.Core.Bool.{Bool, true, false, _&&_}
-use mathlib.Core.List.{List, [], _∷_}
-use Prim.Native.Nat.{ℕ, zero, suc, _≤_, _<_}
+use mathlib.Core.Bool.{Bool, true, false, _&&_, not}
+use mathlib.Core.List.{List}
+use Prim.Native.Nat.{ℕ, zero, suc, _+_, _*_, _/_, _≤_, _<_}
 use native.Mathlib.Omega.{arith}
 use lib.Dec.{eqb, ltb}
-use borrow.Author.Tests.{lt-ltb, le-ltb, ne-eqb}
-use Rattle.base.specs.Tests.{pick, allOf}
+use borrow.Author.Tests.{lt-ltb, le-ltb, eq-eqb, ne-eqb}
+use Rattle.base.specs.Tests.{pick}
 use Rattle.base.proofs.Cases.{eq?}
 use Rattle.words.specs.Word.{Bytes}
+use Rattle.bitmaps.specs.Bitmap.{mark}
 use Rattle.model.specs.Classes.{chunks, hasClear}
 use Rattle.model.specs.WellFormed.{isOpen}
-use Rattle.popcount.proofs.Marked.{clear-count}
+use Rattle.occupancy.specs.Occupancy.{isFull}
+use Rattle.occupancy.proofs.Words.{bits-most}
+use Rattle.occupancy.proofs.Told.{full-is}
+use Rattle.records.specs.Layout.{mapPlace, pagesFrom}
 use Rattle.rules.specs.Fields.{Fields, kind, class, pageAt}
 use Rattle.rules.specs.Read.{isHead, openAt}
 use Rattle.rules.specs.Rules.{rule2At, rule2}
-use Rattle.rules.specs.Bytes.{pagesIn, fieldsOf}
+use Rattle.rules.specs.Bytes.{pagesIn, mapBase, markAt, imageOf, fieldsOf}
+use Rattle.slabs.proofs.Top.{map-inside}
 use Rattle.base.proofs.AllBelow.{all-at}
-use Rattle.tally.specs.Tally.{onesAt}
-use Rattle.tally.proofs.Shares.{page-is}
-use Rattle.tally.proofs.Pass.{Slab, kind-of, slab-ones}
+use Rattle.tally.proofs.Shares.{page-is, map-marks}
+use Rattle.tally.proofs.Pass.{Slab, kind-of}
 use Rattle.walk.specs.Walk.{belongs}
 
-whole : (a b : Bool) → a && b ≡ pick a (pick b true false) false
-unfolding pick
-whole true true = refl
-whole true false = refl
-whole false b = refl
+module _ (w : ℕ) (s : List ℕ) (n p : ℕ) (B : Bytes s) (pages : n ≡ pagesIn w s) (ok : rule2 (fieldsOf w s) n ≡ true) (h : p < n) where
+  abbrev v : Fields
+  v = fieldsOf w s
 
-module _ (w : ℕ) (s : List ℕ) (n c p : ℕ) (B : Bytes s) (pages : n ≡ pagesIn w s) (ok : rule2 (fieldsOf w s) n ≡ true) (h : p < n) where
-  open-told : openAt (fieldsOf w s) n c p ≡ allOf (eqb (kind (fieldsOf w s) p) 2 ∷ eqb (class (fieldsOf w s) p) c ∷ ltb (onesAt w s p c) (chunks c) ∷ [])
-  unfolding rule2 allOf pick openAt isOpen
-  open-told = go (kind v p) refl
-    where
-      v : Fields
-      v = fieldsOf w s
+  at : rule2At v n p ≡ true
+  unfolding rule2
+  at = all-at (rule2At v n) n ok p h
 
-      at : rule2At v n p ≡ true
-      at = all-at (rule2At v n) n ok p h
+  module _ (S : Slab w s p) where
+    abbrev c : ℕ
+    c = class v p
 
-      class-told : Slab w s p → (class v p ≡ c) ⊎ (class v p ≢ c) → eqb (class v p) c && hasClear c (v .mark p) ≡ pick (eqb (class v p) c) (pick (ltb (onesAt w s p c) (chunks c)) true false) false
-      class-told S (inl e) =
-          rw (← e, slab-ones w s n p B pages h at S, clear-count (class v p) (v .mark p)) (whole (eqb (class v p) (class v p)) _)
-      class-told S (inr e) = rw (ne-eqb (class v p) c e)
+    place : 8 * (mapBase w n p c / 8) ≡ mapBase w n p c
+    unfolding mapBase pick
+    place = go (ltb c 3)
+      where
+        go : (b : Bool) → 8 * (pick b (pagesFrom w n + 4096 * p) (8 * mapPlace w p) / 8) ≡ pick b (pagesFrom w n + 4096 * p) (8 * mapPlace w p)
+        go true = omega arith
+        go false = omega arith
 
-      go : (k : ℕ) → kind v p ≡ k → isOpen c (pageAt v n p) ≡ pick (eqb (kind v p) 2) (pick (eqb (class v p) c) (pick (ltb (onesAt w s p c) (chunks c)) true false) false) false
-      go zero d = rw (page-is v n p h 0 d, d)
-      go (suc zero) d = rw (page-is v n p h 1 d, d)
-      go (suc (suc zero)) d = rw (page-is v n p h 2 d, d) (class-told (kind-of w s n p 2 at d .1 refl) (eq? (class v p) c))
-      go (suc (suc (suc zero))) d = rw (page-is v n p h 3 d, d)
-      go (suc (suc (suc (suc zero)))) d = rw (page-is v n p h 4 d, d)
-      go (suc (suc (suc (suc (suc k))))) d = absurd (omega (arith, kind-of w s n p (suc (suc (suc (suc (suc k))))) at d .0))
+    full-told : isFull s (mapBase w n p c / 8) c ≡ not (hasClear c (v .mark p))
+    unfolding fieldsOf imageOf
+    full-told =
+        full-is s B (mapBase w n p c / 8) c (omega (arith, map-inside w s n p c (mapBase w n p c / 8) pages h place, bits-most c)) (markAt w s p c)
+        (λ i l. ap (λ (x : ℕ). mark s x i) (place ∙ ap (λ (q : ℕ). mapBase w q p c) pages) ∙ map-marks w s p c B (rw (← pages) h) (S .fits) i l) (λ b l. past b l)
+      where
+        past : (b : ℕ) → chunks c ≤ b → markAt w s p c b ≡ false
+        past b l = unfold markAt pick in rw (le-ltb b (chunks c) l)
 
-  pub open-found : (r : Bool) → r ≡ allOf (eqb (kind (fieldsOf w s) p) 2 ∷ eqb (class (fieldsOf w s) p) c ∷ ltb (onesAt w s p c) (chunks c) ∷ []) → r ≡ openAt (fieldsOf w s) n c p
-  open-found r e = e ∙ sym open-told
+  module _ (d : ℕ) where
+    abbrev test : Bool
+    test = pick (pick (eqb (kind v p) 2) (eqb (class v p) d) false) (not (isFull s (mapBase w n p d / 8) d)) false
+
+    open-told : openAt v n d p ≡ test
+    unfolding pick openAt isOpen
+    open-told = go (kind v p) refl
+      where
+        class-told : Slab w s p → (class v p ≡ d) ⊎ (class v p ≢ d) → eqb (class v p) d && hasClear d (v .mark p) ≡ pick (pick true (eqb (class v p) d) false) (not (isFull s (mapBase w n p d / 8) d)) false
+        class-told S (inl e) = rw (← e, eq-eqb (class v p) (class v p) refl, full-told S) (twice (hasClear (class v p) (v .mark p)))
+          where
+            twice : (b : Bool) → b ≡ not (not b)
+            twice true = refl
+            twice false = refl
+        class-told S (inr e) = rw (ne-eqb (class v p) d e)
+
+        go : (k : ℕ) → kind v p ≡ k → isOpen d (pageAt v n p) ≡ test
+        go zero a = rw (page-is v n p h 0 a, a)
+        go (suc zero) a = rw (page-is v n p h 1 a, a)
+        go (suc (suc zero)) a = rw (page-is v n p h 2 a, a) (class-told (kind-of w s n p 2 at a .1 refl) (eq? (class v p) d))
+        go (suc (suc (suc zero))) a = rw (page-is v n p h 3 a, a)
+        go (suc (suc (suc (suc zero)))) a = rw (page-is v n p h 4 a, a)
+        go (suc (suc (suc (suc (suc k))))) a = absurd (omega (arith, kind-of w s n p (suc (suc (suc (suc (suc k))))) at a .0))
+
+    pub open-found : (r : Bool) → r ≡ pick (pick (eqb (kind v p) 2) (eqb (class v p) d) false) (not (isFull s (mapBase w n p d / 8) d)) false → r ≡ openAt v n d p
+    open-found r e = e ∙ sym open-told
 
 pub open-past : (v : Fields) (n c p : ℕ) → n ≤ p → false ≡ openAt v n c p
 unfolding openAt pageAt isOpen pick

@@ -1,17 +1,15 @@
 // Walks along the lists of a pool whose pages keep rule 2: with as many pages to come as belong on the list, a walk ends.
 ghost use mathlib.Core.Path.{_≡_};
-ghost use mathlib.Core.Bool.{true};
-ghost use mathlib.Core.List.{[], _∷_};
-ghost use Prim.Native.Nat.{_≤_, _<_};
-ghost use lib.Dec.{eqb, ltb};
-ghost use Rattle.base.specs.Tests.{allOf};
+ghost use mathlib.Core.Bool.{true, false, not};
+ghost use Prim.Native.Nat.{_/_, _≤_, _<_};
+ghost use lib.Dec.{eqb};
+ghost use Rattle.base.specs.Tests.{pick};
 ghost use Rattle.records.specs.Layout.{noPage};
-ghost use Rattle.model.specs.Classes.{chunks};
 ghost use Rattle.rules.specs.Fields.{kind, class, next, prev};
 ghost use Rattle.rules.specs.Read.{isHead, openAt};
 ghost use Rattle.rules.specs.Rules.{rule2, linked};
-ghost use Rattle.rules.specs.Bytes.{pagesIn, fieldsOf};
-ghost use Rattle.tally.specs.Tally.{onesAt};
+ghost use Rattle.rules.specs.Bytes.{pagesIn, mapBase, fieldsOf};
+ghost use Rattle.occupancy.specs.Occupancy.{isFull};
 ghost use Rattle.walk.specs.Walk.{belongs};
 
 fn next_of(pool: &[u8], w: u8, p: usize) -> usize
@@ -41,14 +39,23 @@ fn is_head(pool: &[u8], w: u8, n: usize, p: usize) -> bool
     false
 }
 
+fn not_full(pool: &[u8], w: u8, n: usize, c: u8, p: usize) -> bool
+    requires { ⌜ (p < n) × (n ≤ 65535) ⌝ }
+    ensures { λ r. ⌜ r ≡ not (isFull (now (pool .entry)) (mapBase w n p c / 8) c) ⌝ }
+{
+    !occupancy::is_full(pool, fields::map_at(w, n, p, c), c)
+}
+
 fn open_inside(pool: &[u8], w: u8, n: usize, c: u8, p: usize) -> bool
-    requires { ⌜ (n ≡ pagesIn w (now pool)) × (p < n) × (n ≤ 65535) × (c ≤ 8) ⌝ }
-    ensures { λ r. ⌜ r ≡ allOf (eqb (kind (fieldsOf w (now (pool .entry))) p) 2 ∷ eqb (class (fieldsOf w (now (pool .entry))) p) c ∷ ltb (onesAt w (now (pool .entry)) p c) (chunks c) ∷ []) ⌝ }
+    requires { ⌜ (p < n) × (n ≤ 65535) ⌝ }
+    ensures { λ r. ⌜ r ≡ pick (pick (eqb (kind (fieldsOf w (now (pool .entry))) p) 2) (eqb (class (fieldsOf w (now (pool .entry))) p) c) false) (not (isFull (now (pool .entry)) (mapBase w n p c / 8) c)) false ⌝ }
 {
     let l = fields::links_of(pool, w, p);
-    let ones = tally::ones_of(pool, w, n, p, c);
-    let chunks = tally::chunks_of(c);
-    tests::all3(l.kind == 2, l.class == c, ones < chunks)
+    if tests::both(l.kind == 2, l.class == c) {
+        not_full(pool, w, n, c, p)
+    } else {
+        false
+    }
 }
 
 // Whether p is a page of class c with a clear mark.

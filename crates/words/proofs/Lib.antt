@@ -2,3 +2,4 @@ pub mod Cell
 pub mod Laws
 pub mod Chain
 pub mod Stores
+pub mod Turn

@@ -1,7 +1,7 @@
 -- Words with their bytes in the other order, as the code reads them. Assumes nothing.
 use Prim.Native.Nat.{ℕ, _+_, _*_, _/_, _%_}
 use mathlib.Core.List.{List}
-use lib.ListN.{getD}
+use lib.ListN.{getD, set}
 
 -- the four and the eight bytes from a place on, least significant first
 abbrev pub littleHalfAt : List ℕ → ℕ → ℕ
@@ -19,3 +19,13 @@ swapHalf v = swapPair (v % 65536) * 65536 + swapPair (v / 65536 % 65536)
 
 unfoldable pub swapWord : ℕ → ℕ
 swapWord v = swapHalf (v % 4294967296) * 4294967296 + swapHalf (v / 4294967296)
+
+-- two, four and eight bytes from a place on, set least significant first
+abbrev pub withLittlePair : List ℕ → ℕ → ℕ → List ℕ
+withLittlePair s at v = set (set s at (v % 256)) (at + 1) (v / 256)
+
+unfoldable pub withLittleHalf : List ℕ → ℕ → ℕ → List ℕ
+withLittleHalf s at v = withLittlePair (withLittlePair s at (v % 65536)) (at + 2) (v / 65536)
+
+unfoldable pub withLittleWord : List ℕ → ℕ → ℕ → List ℕ
+withLittleWord s at v = withLittleHalf (withLittleHalf s at (v % 4294967296)) (at + 4) (v / 4294967296)

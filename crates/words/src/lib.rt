@@ -2,8 +2,8 @@
 ghost use mathlib.Core.Path.{_≡_};
 ghost use Prim.Native.Nat.{_+_, _*_, _≤_, _<_};
 ghost use lib.ListN.{length};
-ghost use Rattle.words.specs.Swap.{littleAt, swapPair, swapHalf, swapWord};
-ghost use Rattle.words.specs.Word.{wordAt, withPair, withHalf, withWord};
+ghost use Rattle.words.specs.Swap.{littleAt, swapPair, swapHalf, swapWord, withLittlePair, withLittleHalf, withLittleWord};
+ghost use Rattle.words.specs.Word.{wordAt, withWord};
 
 // Words are composed at 64 bits, least significant byte first, and then turned over: the eight loads become one load, whichever
 // parts of the word are used, and the turn one byte swap.
@@ -59,26 +59,35 @@ pub fn get64(s: &[u8], at: usize) -> u64
     swap64(little64(s, at))
 }
 
+// Stores go the other way: the word is turned over as a whole and its bytes are written least significant first. So the fields that a word
+// was packed from do not reach the eight stores, which become one.
 fn put16(s: &mut [u8], at: usize, v: u16)
     requires { ⌜ at + 2 ≤ length (now s) ⌝ }
-    ensures { λ _. ⌜ now (s .exit) ≡ withPair (now (s .entry)) at v ⌝ }
+    ensures { λ _. ⌜ now (s .exit) ≡ withLittlePair (now (s .entry)) at v ⌝ }
 {
-    s[at] = (v / 256) as u8;
-    s[at + 1] = (v % 256) as u8;
+    s[at] = (v % 256) as u8;
+    s[at + 1] = (v / 256) as u8;
 }
 
 fn put32(s: &mut [u8], at: usize, v: u32)
     requires { ⌜ at + 4 ≤ length (now s) ⌝ }
-    ensures { λ _. ⌜ now (s .exit) ≡ withHalf (now (s .entry)) at v ⌝ }
+    ensures { λ _. ⌜ now (s .exit) ≡ withLittleHalf (now (s .entry)) at v ⌝ }
 {
-    put16(s, at, (v / 65536) as u16);
-    put16(s, at + 2, (v % 65536) as u16);
+    put16(s, at, (v % 65536) as u16);
+    put16(s, at + 2, (v / 65536) as u16);
+}
+
+fn put_little64(s: &mut [u8], at: usize, v: u64)
+    requires { ⌜ at + 8 ≤ length (now s) ⌝ }
+    ensures { λ _. ⌜ now (s .exit) ≡ withLittleWord (now (s .entry)) at v ⌝ }
+{
+    put32(s, at, (v % 4294967296) as u32);
+    put32(s, at + 4, (v / 4294967296) as u32);
 }
 
 pub fn put64(s: &mut [u8], at: usize, v: u64)
     requires { ⌜ at + 8 ≤ length (now s) ⌝ }
     ensures { λ _. ⌜ now (s .exit) ≡ withWord (now (s .entry)) at v ⌝ }
 {
-    put32(s, at, (v / 4294967296) as u32);
-    put32(s, at + 4, (v % 4294967296) as u32);
+    put_little64(s, at, swap64(v));
 }

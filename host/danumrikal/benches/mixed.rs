@@ -1,59 +1,57 @@
-//! 100,000 mixed allocs and frees, with validation at each call, as a ratio to
-//! the second program doing the same.
+//! Nanoseconds a request, of 100,000 mixed allocs and frees: the proved calls,
+//! and what they are measured by.
 
-use std::hint::black_box;
-use std::time::Instant;
+use support::{best_in_turn, length, requests, serve};
+use yardstick::{native, packed};
 
-use support::{mixed_size, Rng};
+const REQUESTS: usize = 100_000;
+const ROUNDS: usize = 15;
 
-/// Seconds of one run of calls on a fresh pool.
-fn run(
-    pages: usize,
-    format: impl Fn(&mut [u8]),
-    alloc: impl Fn(&mut [u8], u32) -> Option<u32>,
-    free: impl Fn(&mut [u8], u32),
-) -> f64 {
-    let mut pool = vec![0; support::length(pages)];
-    format(&mut pool);
-    let mut rng = Rng::new(1);
-    let mut live = Vec::with_capacity(100_000);
-    let start = Instant::now();
-    for _ in 0..100_000 {
-        if live.is_empty() || rng.below(100) < 52 {
-            live.extend(alloc(black_box(&mut pool), mixed_size(&mut rng)));
-        } else {
-            let at = rng.below(live.len() as u64) as usize;
-            free(black_box(&mut pool), live.swap_remove(at));
-        }
+/// Serves the requests on a pool of bytes with these functions.
+fn on_bytes<'a, E>(
+    list: &'a [u64],
+    pages: u16,
+    alloc: impl Fn(&mut [u8], u32) -> Result<u32, E> + 'a,
+    free: impl Fn(&mut [u8], u32) -> Result<(), E> + 'a,
+    number: impl Fn(E) -> u8 + 'a,
+) -> impl FnMut() -> u64 + 'a {
+    let mut pool = vec![0; length(usize::from(pages))];
+    move || {
+        packed::format(&mut pool).expect("a length that holds pages");
+        serve(list, pool.as_mut_slice(), &alloc, &free, &number)
     }
-    start.elapsed().as_secs_f64()
 }
 
 fn main() {
-    println!("pages   proved s   plain s   ratio");
+    println!("        validated at each call    on sound records");
+    println!("pages   proved  packed  second    packed  native    proved/packed");
     for pages in [12, 256] {
-        let (mut proved, mut plain) = (f64::INFINITY, f64::INFINITY);
-        for _ in 0..5 {
-            proved = proved.min(run(
-                pages,
-                |pool| {
-                    danumrikal::format(pool).expect("a length that holds pages");
-                },
-                |pool, size| danumrikal::alloc(pool, size).ok(),
-                |pool, offset| danumrikal::free(pool, offset).expect("a live block"),
-            ));
-            plain = plain.min(run(
-                pages,
-                |pool| {
-                    reference::format(pool).expect("a length that holds pages");
-                },
-                |pool, size| reference::alloc(pool, size).ok(),
-                |pool, offset| reference::free(pool, offset).expect("a live block"),
-            ));
-        }
+        let new = || native::Pool::new(pages);
+        let (alloc, free) = (native::Pool::alloc, native::Pool::free);
+        let list = &requests(REQUESTS, &mut new(), alloc, free);
+
+        let number = danumrikal::Refusal::number;
+        let mut proved = on_bytes(list, pages, danumrikal::alloc, danumrikal::free, number);
+        let number = reference::Refusal::number;
+        let mut packed = on_bytes(list, pages, packed::alloc, packed::free, number);
+        let mut second = on_bytes(list, pages, reference::alloc, reference::free, number);
+        let mut sound = on_bytes(list, pages, packed::alloc_sound, packed::free_sound, number);
+        let mut native = || serve(list, &mut new(), alloc, free, number);
+
+        let best = best_in_turn(
+            ROUNDS,
+            [
+                &mut proved,
+                &mut packed,
+                &mut second,
+                &mut sound,
+                &mut native,
+            ],
+        );
+        let [proved, packed, second, sound, native] = best.map(|time| time / REQUESTS as f64);
         println!(
-            "{pages:5}   {proved:8.3}   {plain:7.3}   {:5.2}",
-            proved / plain
+            "{pages:5}  {proved:7.1} {packed:7.1} {second:7.1}   {sound:7.1} {native:7.1}    {:13.2}",
+            proved / packed
         );
     }
 }

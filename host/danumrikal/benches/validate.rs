@@ -1,51 +1,57 @@
-//! One validation at several page counts, as a ratio to the second program's.
+//! Nanoseconds of one validation: the proved one, and what it is measured by.
 
 use std::hint::black_box;
-use std::time::Instant;
 
-use support::{mixed_size, Rng};
+use support::{best_in_turn, length, mixed_size, Rng};
+use yardstick::packed;
 
-/// A pool with blocks of every class and some runs, about half of it taken.
+const ROUNDS: usize = 25;
+
+/// A pool filled with blocks of mixed sizes until one is refused: no page is
+/// free, and runs are of one page.
 fn mixed(pages: usize) -> Vec<u8> {
-    let mut pool = vec![0; support::length(pages)];
-    reference::format(&mut pool).expect("a length that holds pages");
+    let mut pool = vec![0; length(pages)];
+    packed::format(&mut pool).expect("a length that holds pages");
     let mut rng = Rng::new(1);
     for _ in 0..pages * 40 {
-        if reference::alloc(&mut pool, mixed_size(&mut rng)).is_err() {
+        if packed::alloc(&mut pool, mixed_size(&mut rng)).is_err() {
             break;
         }
     }
     pool
 }
 
-/// Nanoseconds of one call, the best of several rounds.
-fn best(calls: u32, mut call: impl FnMut()) -> f64 {
-    (0..15)
-        .map(|_| {
-            let start = Instant::now();
-            for _ in 0..calls {
-                call();
-            }
-            start.elapsed().as_nanos() as f64 / f64::from(calls)
-        })
-        .fold(f64::INFINITY, f64::min)
+/// Validates the pool so many times, and answers the sum of the broken rules.
+fn times<'a>(
+    calls: usize,
+    pool: &'a [u8],
+    broken_rule: impl Fn(&[u8]) -> u8 + 'a,
+) -> impl FnMut() -> u64 + 'a {
+    move || {
+        (0..calls)
+            .map(|_| u64::from(broken_rule(black_box(pool))))
+            .sum()
+    }
 }
 
 fn main() {
-    println!("pages   proved ns   plain ns   ratio");
+    println!("pages    proved   packed   second    proved/packed  proved/second");
     for pages in [1, 12, 64, 256] {
-        let pool = mixed(pages);
-        assert_eq!(danumrikal::broken_rule(&pool), 0);
-        let calls = 400_000 / pages as u32 + 100;
-        let proved = best(calls, || {
-            black_box(danumrikal::broken_rule(black_box(&pool)));
-        });
-        let plain = best(calls, || {
-            black_box(reference::broken_rule(black_box(&pool)));
-        });
+        let pool = &mixed(pages);
+        let calls = 200_000 / pages + 100;
+        let best = best_in_turn(
+            ROUNDS,
+            [
+                &mut times(calls, pool, danumrikal::broken_rule),
+                &mut times(calls, pool, packed::broken_rule),
+                &mut times(calls, pool, reference::broken_rule),
+            ],
+        );
+        let [proved, packed, second] = best.map(|time| time / calls as f64);
         println!(
-            "{pages:5}   {proved:9.1}   {plain:8.1}   {:5.2}",
-            proved / plain
+            "{pages:5}  {proved:8.1} {packed:8.1} {second:8.1}    {:13.2}  {:13.2}",
+            proved / packed,
+            proved / second
         );
     }
 }

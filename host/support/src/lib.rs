@@ -1,13 +1,15 @@
 //! Numbers and calls that look random and are the same in every run, for tests
-//! and benchmarks. Nothing here knows either program.
+//! and benchmarks. Nothing here knows an allocator.
 
 #![forbid(unsafe_code)]
 #![warn(missing_docs)]
 
 mod habit;
+mod requests;
 mod rng;
 
 pub use habit::{mixed_size, offset, Habit};
+pub use requests::{best_in_turn, requests, serve};
 pub use rng::Rng;
 
 use std::ops::Range;

@@ -4,19 +4,15 @@ use borrow.Author.Needs.{needs}
 use Rattle.cells.proofs.get_word.Statement.{statement}
 use Rattle.cells.proofs.get_word.Tie as tie
 
-mul-get64 : tie.Need-mul-get64
-mul-get64 c = search needs
-
-get64-requires : tie.Need-get64-requires
-get64-requires c κs = search needs
+get-word-in-requires : tie.Need-get-word-in-requires
+get-word-in-requires c κs = search needs
 
 returns : tie.Need-returns
-unfolding word
-returns c = search picks
+returns c = search needs
 
 returns-2 : tie.Need-returns-2
 unfolding word
 returns-2 c = search picks
 
 pub get-word-spec : {M : Type 1} → statement M
-get-word-spec = tie.close (tie.spec mul-get64 get64-requires returns returns-2)
+get-word-spec = tie.close (tie.spec get-word-in-requires returns returns-2)

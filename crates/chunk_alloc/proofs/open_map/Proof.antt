@@ -23,7 +23,7 @@ same-length c = search needs
 
 returns : tie.Need-returns
 unfolding newMapAt
-returns c = rw (c .before .before .before .own-count .ensures .0, c .before .before .before .before .map-bytes .ensures, c .before .before .before .before .before .map-base .ensures) at (c .before .before .write-map-at .ensures)
+returns c = rw (c .before .before .before .own-count .ensures .0, c .before .before .before .before .map-bytes .ensures .0, c .before .before .before .before .before .map-base .ensures) at (c .before .before .write-map-at .ensures)
 
 pub open-map-spec : {M : Type 1} → statement M
 open-map-spec =

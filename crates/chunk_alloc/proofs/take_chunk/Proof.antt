@@ -3,8 +3,8 @@ use borrow.Author.Needs.{needs}
 use Rattle.chunk_alloc.proofs.take_chunk.Statement.{statement}
 use Rattle.chunk_alloc.proofs.take_chunk.Tie as tie
 
-marks-set-requires : tie.Need-marks-set-requires
-marks-set-requires c κs = search needs
+is-last-free-requires : tie.Need-is-last-free-requires
+is-last-free-requires c κs = search needs
 
 leave-if-full-requires : tie.Need-leave-if-full-requires
 leave-if-full-requires c κs = search needs
@@ -23,13 +23,13 @@ same-length c = search needs
 
 returns : tie.Need-returns
 unfolding chunkTaken
-returns c = rw (c .before .before .before .before .before .before .set-mark .ensures, c .before .before .before .before .before .before .before .map-base .ensures, c .before .before .before .before .before .before .before .before .before .before .before .leave-if-full .ensures, c .before .before .before .before .before .before .before .before .before .before .before .before .before .marks-set .ensures) at (c .before .before .count-used .ensures)
+returns c = rw (c .before .before .before .before .before .before .set-mark .ensures, c .before .before .before .before .before .before .before .map-base .ensures, c .before .before .before .before .before .before .before .before .before .before .before .leave-if-full .ensures, c .before .before .before .before .before .before .before .before .before .before .before .before .before .is-last-free .ensures) at (c .before .before .count-used .ensures)
 
 pub take-chunk-spec : {M : Type 1} → statement M
 take-chunk-spec =
     tie.close
     (tie.spec
-    marks-set-requires
+    is-last-free-requires
     leave-if-full-requires
     map-base-requires
     set-mark-requires

@@ -4,9 +4,6 @@ use borrow.Author.Needs.{needs}
 use Rattle.class_lists.proofs.leave_if_full.Statement.{statement}
 use Rattle.class_lists.proofs.leave_if_full.Tie as tie
 
-is-last-free-requires : tie.Need-is-last-free-requires
-is-last-free-requires c κs = search needs
-
 set-aside-requires : tie.Need-set-aside-requires
 set-aside-requires c κs = search needs
 
@@ -22,5 +19,4 @@ unfolding fullLeaves
 returns-2 c = search picks
 
 pub leave-if-full-spec : {M : Type 1} → statement M
-leave-if-full-spec =
-    tie.close (tie.spec is-last-free-requires set-aside-requires same-length returns returns-2)
+leave-if-full-spec = tie.close (tie.spec set-aside-requires same-length returns returns-2)

@@ -4,9 +4,6 @@ use borrow.Author.Needs.{needs}
 use Rattle.class_lists.proofs.return_if_full.Statement.{statement}
 use Rattle.class_lists.proofs.return_if_full.Tie as tie
 
-is-full-requires : tie.Need-is-full-requires
-is-full-requires c κs = search needs
-
 enlist-requires : tie.Need-enlist-requires
 enlist-requires c κs = search needs
 
@@ -22,5 +19,4 @@ unfolding fullReturns
 returns-2 c = search picks
 
 pub return-if-full-spec : {M : Type 1} → statement M
-return-if-full-spec =
-    tie.close (tie.spec is-full-requires enlist-requires same-length returns returns-2)
+return-if-full-spec = tie.close (tie.spec enlist-requires same-length returns returns-2)

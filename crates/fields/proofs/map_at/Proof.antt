@@ -38,11 +38,11 @@ add-result-5 c = search needs
 
 returns : tie.Need-returns
 unfolding mapBase
-returns c = pick-lt _ _ _ _ (c .if1 .taken) (omega arith)
+returns c = (pick-lt _ _ _ _ (c .if1 .taken) (omega arith), omega arith)
 
 returns-2 : tie.Need-returns-2
 unfolding mapBase
-returns-2 c = search picks
+returns-2 c = (search picks, omega arith)
 
 pub map-at-spec : {M : Type 1} → statement M
 map-at-spec =

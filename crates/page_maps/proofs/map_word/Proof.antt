@@ -1,8 +1,14 @@
 use native.Mathlib.Omega.{arith}
-use Rattle.classes.proofs.Numbers.{word-paged, word-recorded}
 use borrow.Author.Needs.{needs}
+use Rattle.page_maps.proofs.Places.{word-chosen}
 use Rattle.page_maps.proofs.map_word.Statement.{statement}
 use Rattle.page_maps.proofs.map_word.Tie as tie
+
+chosen-requires : tie.Need-chosen-requires
+chosen-requires c κs = search needs
+
+chosen-requires-2 : tie.Need-chosen-requires-2
+chosen-requires-2 c κs = search needs
 
 mul-result : tie.Need-mul-result
 mul-result c = search needs
@@ -10,14 +16,17 @@ mul-result c = search needs
 add-result : tie.Need-add-result
 add-result c = search needs
 
+cast-result : tie.Need-cast-result
+cast-result c = search needs
+
 mul-result-2 : tie.Need-mul-result-2
 mul-result-2 c = search needs
 
 add-result-2 : tie.Need-add-result-2
 add-result-2 c = search needs
 
-cast-result : tie.Need-cast-result
-cast-result c = search needs
+cast-result-2 : tie.Need-cast-result-2
+cast-result-2 c = search needs
 
 mul-result-3 : tie.Need-mul-result-3
 mul-result-3 c = search needs
@@ -25,42 +34,21 @@ mul-result-3 c = search needs
 add-result-3 : tie.Need-add-result-3
 add-result-3 c = search needs
 
-mul-result-4 : tie.Need-mul-result-4
-mul-result-4 c = search needs
-
-add-result-4 : tie.Need-add-result-4
-add-result-4 c = search needs
-
-cast-result-2 : tie.Need-cast-result-2
-cast-result-2 c = search needs
-
-mul-result-5 : tie.Need-mul-result-5
-mul-result-5 c = search needs
-
-add-result-5 : tie.Need-add-result-5
-add-result-5 c = search needs
-
 returns : tie.Need-returns
-returns c = (rw (word-paged _ _ _ _ (c .before .if1 .taken)) (omega arith), omega arith)
-
-returns-2 : tie.Need-returns-2
-returns-2 c = (rw (word-recorded _ _ _ _ (c .before .if1 .left)) (omega arith), omega arith)
+returns c = (word-chosen _ _ _ _ _ _ (c .before .chosen .ensures) (c .chosen2 .ensures), omega arith)
 
 pub map-word-spec : {M : Type 1} → statement M
 map-word-spec =
     tie.close
     (tie.spec
+    chosen-requires
+    chosen-requires-2
     mul-result
     add-result
+    cast-result
     mul-result-2
     add-result-2
-    cast-result
+    cast-result-2
     mul-result-3
     add-result-3
-    mul-result-4
-    add-result-4
-    cast-result-2
-    mul-result-5
-    add-result-5
-    returns
-    returns-2)
+    returns)

@@ -4,14 +4,14 @@ use borrow.Author.Needs.{needs}
 use Rattle.popcount.proofs.ones.Statement.{statement}
 use Rattle.popcount.proofs.ones.Tie as tie
 
-get-word-requires : tie.Need-get-word-requires
-get-word-requires c κs = search needs
+get-word-in-requires : tie.Need-get-word-in-requires
+get-word-in-requires c κs = search needs
 
 cast-result : tie.Need-cast-result
-cast-result c = omega (arith, read-ones _ _ _ (λ i. c .before .shared-slice-known .given i .fits) (c .before .before .pre) (c .get-word .ensures))
+cast-result c = omega (arith, read-ones _ _ _ (λ i. c .before .shared-slice-known .given i .fits) (c .before .before .pre) (c .get-word-in .ensures))
 
 returns : tie.Need-returns
-returns c = read-ones _ _ _ (λ i. c .before .shared-slice-known .given i .fits) (c .before .before .pre) (c .get-word .ensures)
+returns c = read-ones _ _ _ (λ i. c .before .shared-slice-known .given i .fits) (c .before .before .pre) (c .get-word-in .ensures)
 
 pub ones-spec : {M : Type 1} → statement M
-ones-spec = tie.close (tie.spec get-word-requires cast-result returns)
+ones-spec = tie.close (tie.spec get-word-in-requires cast-result returns)

@@ -1,22 +1,25 @@
-use Rattle.sizes.specs.Sizes.{classFor}
-use Rattle.base.proofs.Tests.{picks}
+use native.Mathlib.Omega.{arith}
 use borrow.Author.Needs.{needs}
+use Rattle.sizes.proofs.Leading.{leading-none, leading-class, leading-least, leading-most}
 use Rattle.sizes.proofs.class_for.Statement.{statement}
 use Rattle.sizes.proofs.class_for.Tie as tie
 
-up-to-64-requires : tie.Need-up-to-64-requires
-up-to-64-requires c κs = search needs
-
-up-to-2048-requires : tie.Need-up-to-2048-requires
-up-to-2048-requires c κs = search needs
-
 returns : tie.Need-returns
-unfolding classFor
-returns c = (search picks, search needs)
+returns c = (leading-none _ (c .if1 .taken), omega arith)
+
+sub-result : tie.Need-sub-result
+sub-result c = search needs
+
+sub-result-2 : tie.Need-sub-result-2
+sub-result-2 c = let n = c .before .args .size in omega (arith, leading-least n (c .if1 .left) (c .before .pre))
+
+cast-result : tie.Need-cast-result
+cast-result c = search needs
 
 returns-2 : tie.Need-returns-2
-unfolding classFor
-returns-2 c = (search picks, search needs)
+returns-2 c =
+    let n = c .before .args .size in
+    (leading-class n (c .if1 .left) (c .before .pre), omega (arith, leading-most n (c .if1 .left) (c .before .pre)))
 
 pub class-for-spec : {M : Type 1} → statement M
-class-for-spec = tie.close (tie.spec up-to-64-requires up-to-2048-requires returns returns-2)
+class-for-spec = tie.close (tie.spec returns sub-result sub-result-2 cast-result returns-2)

@@ -1,8 +1,10 @@
-use native.Mathlib.Omega.{arith}
 use Rattle.tally.specs.Tally.{classFault}
 use borrow.Author.Needs.{needs}
 use Rattle.tally.proofs.class_fault.Statement.{statement}
 use Rattle.tally.proofs.class_fault.Tie as tie
+
+unpack-links-requires : tie.Need-unpack-links-requires
+unpack-links-requires c κs = search needs
 
 own-of-requires : tie.Need-own-of-requires
 own-of-requires c κs = search needs
@@ -17,10 +19,10 @@ one-if-requires-2 : tie.Need-one-if-requires-2
 one-if-requires-2 c κs = search needs
 
 mul-result : tie.Need-mul-result
-mul-result c = omega arith
+mul-result c = search needs
 
 add-result : tie.Need-add-result
-add-result c = omega arith
+add-result c = search needs
 
 returns : tie.Need-returns
 unfolding classFault
@@ -30,6 +32,7 @@ pub class-fault-spec : {M : Type 1} → statement M
 class-fault-spec =
     tie.close
     (tie.spec
+    unpack-links-requires
     own-of-requires
     one-if-requires
     strays-of-requires

@@ -7,7 +7,7 @@ open-inside-requires : tie.Need-open-inside-requires
 open-inside-requires c κs = search needs
 
 returns : tie.Need-returns
-returns c = open-found (c .before .before .before .args .w) (c .before .before .before .args .pool .now) _ _ _ (λ i. c .before .before .shared-slice-known .given i .fits) (c .before .before .before .pre .0) (c .before .before .before .pre .3) (c .before .if1 .taken) _ (c .open-inside .ensures)
+returns c = let b = c .before .before .before in open-found (b .args .w) (b .args .pool .now) _ _ (λ i. c .before .before .shared-slice-known .given i .fits) (b .pre .0) (b .pre .3) (c .before .if1 .taken) _ _ (c .open-inside .ensures)
 
 returns-2 : tie.Need-returns-2
 returns-2 c = open-past _ _ _ _ (c .if1 .left)

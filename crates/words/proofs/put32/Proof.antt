@@ -1,4 +1,4 @@
-use Rattle.words.specs.Word.{withHalf}
+use Rattle.words.specs.Swap.{withLittleHalf}
 use borrow.Author.Needs.{needs}
 use Rattle.words.proofs.put32.Statement.{statement}
 use Rattle.words.proofs.put32.Tie as tie
@@ -22,7 +22,7 @@ same-length : tie.Need-same-length
 same-length c = search needs
 
 returns : tie.Need-returns
-unfolding withHalf
+unfolding withLittleHalf
 returns c = rw (c .before .before .before .before .before .before .put16 .ensures) at (c .before .before .put162 .ensures)
 
 pub put32-spec : {M : Type 1} → statement M

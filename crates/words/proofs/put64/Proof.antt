@@ -1,38 +1,25 @@
-use Rattle.words.specs.Word.{withWord}
+use mathlib.Core.Path.{_∙_}
+use denote.Ref.{now}
+use native.Mathlib.Omega.{arith}
+use Rattle.words.proofs.Turn.{word-turned}
 use borrow.Author.Needs.{needs}
 use Rattle.words.proofs.put64.Statement.{statement}
 use Rattle.words.proofs.put64.Tie as tie
 
-cast-put32 : tie.Need-cast-put32
-cast-put32 c = search needs
+swap64-requires : tie.Need-swap64-requires
+swap64-requires c κs = search needs
 
-put32-requires : tie.Need-put32-requires
-put32-requires c κs = search needs
-
-add-put32 : tie.Need-add-put32
-add-put32 c = search needs
-
-cast-put32-2 : tie.Need-cast-put32-2
-cast-put32-2 c = search needs
-
-put32-requires-2 : tie.Need-put32-requires-2
-put32-requires-2 c κs = search needs
+put-little64-requires : tie.Need-put-little64-requires
+put-little64-requires c κs = search needs
 
 same-length : tie.Need-same-length
 same-length c = search needs
 
 returns : tie.Need-returns
-unfolding withWord
-returns c = rw (c .before .before .before .before .before .before .put32 .ensures) at (c .before .before .put322 .ensures)
+returns c =
+    let a = c .before .before .before .before .before .before .args in
+    let e = rw (c .before .before .before .swap64 .ensures) at (c .before .before .put-little64 .ensures) in
+    e ∙ word-turned (now (a .s)) (a .at) (a .v) (omega arith)
 
 pub put64-spec : {M : Type 1} → statement M
-put64-spec =
-    tie.close
-    (tie.spec
-    cast-put32
-    put32-requires
-    add-put32
-    cast-put32-2
-    put32-requires-2
-    same-length
-    returns)
+put64-spec = tie.close (tie.spec swap64-requires put-little64-requires same-length returns)

@@ -1,0 +1,38 @@
+use Rattle.words.specs.Swap.{withLittleWord}
+use borrow.Author.Needs.{needs}
+use Rattle.words.proofs.put_little64.Statement.{statement}
+use Rattle.words.proofs.put_little64.Tie as tie
+
+cast-put32 : tie.Need-cast-put32
+cast-put32 c = search needs
+
+put32-requires : tie.Need-put32-requires
+put32-requires c κs = search needs
+
+add-put32 : tie.Need-add-put32
+add-put32 c = search needs
+
+cast-put32-2 : tie.Need-cast-put32-2
+cast-put32-2 c = search needs
+
+put32-requires-2 : tie.Need-put32-requires-2
+put32-requires-2 c κs = search needs
+
+same-length : tie.Need-same-length
+same-length c = search needs
+
+returns : tie.Need-returns
+unfolding withLittleWord
+returns c = rw (c .before .before .before .before .before .before .put32 .ensures) at (c .before .before .put322 .ensures)
+
+pub put-little64-spec : {M : Type 1} → statement M
+put-little64-spec =
+    tie.close
+    (tie.spec
+    cast-put32
+    put32-requires
+    add-put32
+    cast-put32-2
+    put32-requires-2
+    same-length
+    returns)

@@ -1,0 +1,97 @@
+//! The allocator on the packed bytes of a pool.
+
+mod census;
+mod chunks;
+mod layout;
+mod runs;
+mod validate;
+
+pub use validate::broken_rule;
+
+use crate::class::{class_of, CLASSES, LARGEST_CHUNK};
+use crate::Refusal;
+use layout::{
+    get, kind, page_count, put, run, stated_pages, Pool, CLASS_PAGE, CONSTANTS, FIRST_SHIFT,
+    FREE_FIRST, NONE, TAKEN_FIRST,
+};
+use runs::{alloc_run, release};
+
+/// Makes the slice a pool with one free run, and answers its page count.
+pub fn format(bytes: &mut [u8]) -> Result<u32, Refusal> {
+    let pages = page_count(bytes.len())?;
+    let pool = Pool::split(bytes, |_| pages).ok_or(Refusal::TooShort)?;
+    put(pool.header, CONSTANTS << 48 | (pages as u64) << 32 | NONE);
+    let empty = [(NONE << FIRST_SHIFT).to_be_bytes(), [0; 8]];
+    pool.classes.copy_from_slice(&[empty; CLASSES]);
+    release(pool.header, pool.records, 0, pages);
+    Ok(pages as u32)
+}
+
+/// Takes a block of at least `size` bytes and answers its offset.
+pub fn alloc(bytes: &mut [u8], size: u32) -> Result<u32, Refusal> {
+    if broken_rule(bytes) != 0 {
+        return Err(Refusal::NotSound);
+    }
+    alloc_sound(bytes, size)
+}
+
+/// Gives back the block that begins at `offset`.
+pub fn free(bytes: &mut [u8], offset: u32) -> Result<(), Refusal> {
+    if broken_rule(bytes) != 0 {
+        return Err(Refusal::NotSound);
+    }
+    free_sound(bytes, offset)
+}
+
+/// [`alloc`] without the validation. On unsound records it may panic or never
+/// end.
+pub fn alloc_sound(bytes: &mut [u8], size: u32) -> Result<u32, Refusal> {
+    if size > LARGEST_CHUNK {
+        return alloc_pages(bytes, size);
+    }
+    let class = class_of(size);
+    let chunk = sound(bytes)?.alloc_chunk(class);
+    match chunk {
+        Some(offset) => Ok(offset),
+        None => alloc_pages(bytes, size),
+    }
+}
+
+/// Takes pages, to hand them out whole or to cut one into chunks. Apart from
+/// the usual case, which is shorter for it.
+#[inline(never)]
+fn alloc_pages(bytes: &mut [u8], size: u32) -> Result<u32, Refusal> {
+    let mut pool = sound(bytes)?;
+    if size <= LARGEST_CHUNK {
+        pool.alloc_page(class_of(size))
+    } else {
+        alloc_run(pool.header, pool.records, size)
+    }
+}
+
+/// [`free`] without the validation. On unsound records it may panic or never
+/// end.
+pub fn free_sound(bytes: &mut [u8], offset: u32) -> Result<(), Refusal> {
+    let mut pool = sound(bytes)?;
+    let page = (offset >> 12) as usize;
+    let within = offset % 4_096;
+    let Some([_, links]) = pool.records.get(page) else {
+        return Err(Refusal::Outside);
+    };
+    let links = get(links);
+    match kind(links) {
+        CLASS_PAGE => pool.free_chunk(page, links, within),
+        TAKEN_FIRST if within == 0 => {
+            release(pool.header, pool.records, page, run(links));
+            Ok(())
+        }
+        kind if kind <= FREE_FIRST => Err(Refusal::NotTaken),
+        _ => Err(Refusal::NotAStart),
+    }
+}
+
+/// The parts of a pool whose header is sound.
+#[inline]
+fn sound(bytes: &mut [u8]) -> Result<Pool<'_>, Refusal> {
+    Pool::split(bytes, stated_pages).ok_or(Refusal::NotSound)
+}

@@ -1,0 +1,151 @@
+//! The packed machine and the second program agree on answers and on every
+//! byte.
+
+mod calls;
+
+use calls::Calls;
+use reference::{Call, Refusal};
+use support::{length, Rng};
+use yardstick::packed;
+
+type Format = fn(&mut [u8]) -> Result<u32, Refusal>;
+type Alloc = fn(&mut [u8], u32) -> Result<u32, Refusal>;
+type Free = fn(&mut [u8], u32) -> Result<(), Refusal>;
+
+/// A pool and the functions that work on it.
+struct Player {
+    pool: Vec<u8>,
+    alloc: Alloc,
+    free: Free,
+}
+
+impl Player {
+    fn new(mut pool: Vec<u8>, format: Format, alloc: Alloc, free: Free) -> Player {
+        format(&mut pool).expect("a length that holds pages");
+        Player { pool, alloc, free }
+    }
+
+    fn play(&mut self, call: Call) -> Result<u32, Refusal> {
+        match call {
+            Call::Alloc(size) => (self.alloc)(&mut self.pool, size),
+            Call::Free(offset) => (self.free)(&mut self.pool, offset).map(|()| 0),
+        }
+    }
+}
+
+fn agree(seed: u64, pages: usize, turns: usize) {
+    let mut calls = Calls::new(seed, pages);
+    let tail = calls.rng.below(4_112) as usize;
+    let bytes = calls.rng.bytes(length(pages) + tail);
+    let new = |format, alloc, free| Player::new(bytes.clone(), format, alloc, free);
+    let mut second = new(
+        reference::format,
+        reference::alloc_sound,
+        reference::free_sound,
+    );
+    let mut others = [
+        new(packed::format, packed::alloc, packed::free),
+        new(packed::format, packed::alloc_sound, packed::free_sound),
+    ];
+    for turn in 0..turns {
+        let call = calls.next();
+        let answer = second.play(call);
+        for other in &mut others {
+            let place = format!("seed {seed}, {pages} pages, turn {turn}, {call:?}");
+            assert_eq!(other.play(call), answer, "{place}");
+            assert!(other.pool == second.pool, "{place}: the pools differ");
+        }
+        if let Ok(answer) = answer {
+            calls.granted(call, answer);
+        }
+    }
+}
+
+#[test]
+fn calls_agree_in_small_pools() {
+    for seed in 0..40 {
+        for pages in [1, 2, 3, 12] {
+            agree(seed, pages, 1_500);
+        }
+    }
+}
+
+#[test]
+fn calls_agree_in_large_pools() {
+    for seed in 0..6 {
+        agree(seed, 64, 1_500);
+        agree(seed, 256, 600);
+    }
+}
+
+#[test]
+fn lengths_agree() {
+    let end = length(257);
+    let lengths = (0..200).chain(4_000..4_300).chain(end - 2..end + 2);
+    for length in lengths.chain([8_375, 8_376, 8_377, end + 10_000]) {
+        let mut ours = vec![7; length];
+        let mut theirs = ours.clone();
+        let answer = packed::format(&mut ours);
+        assert_eq!(answer, reference::format(&mut theirs), "length {length}");
+        assert!(ours == theirs, "length {length}: the pools differ");
+        let rule = u8::from(answer.is_err());
+        assert_eq!(packed::broken_rule(&ours), rule, "length {length}");
+    }
+}
+
+/// Every offset of pools with pages of all kinds, and some past their end.
+#[test]
+fn every_offset_is_freed_or_refused_alike() {
+    for seed in 0..4 {
+        let mut calls = Calls::new(seed, 12);
+        let mut pool = vec![0; length(12)];
+        reference::format(&mut pool).expect("a length that holds pages");
+        for _ in 0..400 {
+            let call = calls.next();
+            let answer = match call {
+                Call::Alloc(size) => reference::alloc_sound(&mut pool, size),
+                Call::Free(offset) => reference::free_sound(&mut pool, offset).map(|()| 0),
+            };
+            if let Ok(answer) = answer {
+                calls.granted(call, answer);
+            }
+        }
+        let (mut ours, mut theirs) = (pool.clone(), pool.clone());
+        for offset in (0..12 * 4_096 + 20).chain([u32::MAX]) {
+            let answer = packed::free_sound(&mut ours, offset);
+            assert_eq!(answer, reference::free_sound(&mut theirs, offset));
+            if answer.is_ok() {
+                assert!(ours == theirs, "seed {seed}: the pools differ");
+                ours.copy_from_slice(&pool);
+                theirs.copy_from_slice(&pool);
+            }
+        }
+        assert!(ours == pool && theirs == pool, "a refused call wrote");
+    }
+}
+
+/// Tallies stop at the largest number.
+#[test]
+fn tallies_stop() {
+    let mut pool = vec![0; length(1)];
+    packed::format(&mut pool).expect("a length that holds a page");
+    packed::alloc(&mut pool, 4_096).expect("a free page");
+    pool[16..24].fill(0xFF);
+    pool[23] = 0xFE;
+    let mut other = pool.clone();
+    for _ in 0..3 {
+        assert_eq!(packed::alloc(&mut pool, 8), Err(Refusal::NoRoom));
+        assert_eq!(reference::alloc(&mut other, 8), Err(Refusal::NoRoom));
+        assert!(pool == other, "the tallies differ");
+    }
+    assert_eq!(pool[16..24], [0xFF; 8]);
+}
+
+#[test]
+fn unsound_pools_are_refused_and_kept() {
+    let bytes = Rng::new(1).bytes(length(2));
+    let mut pool = bytes.clone();
+    assert_eq!(packed::alloc(&mut pool, 8), Err(Refusal::NotSound));
+    assert_eq!(packed::free(&mut pool, 0), Err(Refusal::NotSound));
+    assert!(pool == bytes);
+}
