@@ -13,7 +13,7 @@ ghost use Rattle.answer_words.specs.Word.{wordOf};
 pub extern "C" fn pool_format(pool: &mut [u8]) -> u64
     ensures { λ r. ⌜ (r ≡ wordOf (formats.formatOutcome 2 (length (now (pool .entry))))) × (now (pool .exit) ≡ formats.formatted 2 (now (pool .entry))) ⌝ }
 {
-    answer_words::formatted_word(format::format(pool))
+    answer_words::formatted_word(pool::format(pool))
 }
 
 // The number of the first rule that the pool breaks; 0 where it is sound.
@@ -21,7 +21,7 @@ pub extern "C" fn pool_format(pool: &mut [u8]) -> u64
 pub extern "C" fn pool_validate(pool: &[u8]) -> u64
     ensures { λ r. ⌜ r ≡ brokenRule 2 (now (pool .entry)) ⌝ }
 {
-    validate::broken_rule(pool) as u64
+    pool::broken_rule(pool) as u64
 }
 
 // Takes a block: its offset, or the refusal.

@@ -1,6 +1,7 @@
 // Alloc of a chunk on sound records.
 use allocating::Allocated;
 use answers::Refusal;
+use records::NO_PAGE;
 use records::PageNumber;
 ghost use mathlib.Core.Path.{_≡_};
 ghost use Prim.Native.Nat.{_≤_};
@@ -42,7 +43,7 @@ fn cut_or_refuse(pool: &mut [u8], w: u8, pages: u16, c: u8, p: PageNumber) -> Al
     requires { ⌜ c ≤ 8 ⌝ }
     ensures { λ r. ⌜ (outcomeOf r ≡ cutOutcome c (p .0)) × (now (pool .exit) ≡ cutSlice w (now (pool .entry)) pages c (p .0)) ⌝ }
 {
-    if p.0 == 65535 {
+    if p.0 == NO_PAGE {
         refuse_chunk(pool, w, c)
     } else {
         cut_page(pool, w, pages, c, p)
@@ -61,7 +62,7 @@ fn chunk_from(pool: &mut [u8], w: u8, pages: u16, c: u8, p: PageNumber) -> Alloc
     requires { ⌜ c ≤ 8 ⌝ }
     ensures { λ r. ⌜ (outcomeOf r ≡ fromOutcome w (now (pool .entry)) pages c (p .0)) × (now (pool .exit) ≡ fromSlice w (now (pool .entry)) pages c (p .0)) ⌝ }
 {
-    if p.0 == 65535 {
+    if p.0 == NO_PAGE {
         new_page(pool, w, pages, c)
     } else {
         take_chunk(pool, w, pages, c, p)

@@ -1,7 +1,9 @@
 // Alloc of whole pages on sound records.
 use allocating::Allocated;
 use answers::Refusal;
+use records::NO_PAGE;
 use records::Offset;
+use records::PAGE;
 use records::PageNumber;
 ghost use mathlib.Core.Path.{_≡_};
 ghost use Prim.Native.Nat.{_*_, _%_};
@@ -13,13 +15,13 @@ fn take_run(pool: &mut [u8], w: u8, k: u32, p: PageNumber) -> Allocated
     ensures { λ r. ⌜ (outcomeOf r ≡ granted (4096 * p .0)) × (now (pool .exit) ≡ runTaken w (now (pool .entry)) (p .0) (k % 65536)) ⌝ }
 {
     run_alloc::take_run(pool, w, p, (k % 65536) as u16);
-    Allocated::At(Offset(4096 * p.0 as u32))
+    Allocated::At(Offset(PAGE * p.0 as u32))
 }
 
 fn run_from(pool: &mut [u8], w: u8, k: u32, p: PageNumber) -> Allocated
     ensures { λ r. ⌜ (outcomeOf r ≡ runOutcome (p .0)) × (now (pool .exit) ≡ runSlice w (now (pool .entry)) k (p .0)) ⌝ }
 {
-    if p.0 == 65535 {
+    if p.0 == NO_PAGE {
         return Allocated::Refused(Refusal::NoRoom);
     }
     take_run(pool, w, k, p)

@@ -1,5 +1,7 @@
 // Class pages: the number of their list, and what stands in their record.
+use records::CLASS_PAGE;
 use records::Links;
+use records::NO_PAGE;
 use records::PageNumber;
 ghost use mathlib.Core.Path.{_≡_};
 ghost use Rattle.chunks.specs.Chunks.{listOf, classLinks};
@@ -15,10 +17,10 @@ pub fn class_links(c: u8) -> Links
     ensures { λ r. ⌜ r ≡ classLinks c ⌝ }
 {
     Links {
-        kind: 2,
+        kind: CLASS_PAGE,
         class: c,
         run: 0,
-        next: PageNumber(65535),
-        prev: PageNumber(65535),
+        next: PageNumber(NO_PAGE),
+        prev: PageNumber(NO_PAGE),
     }
 }

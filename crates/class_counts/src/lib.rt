@@ -1,5 +1,7 @@
 // A class record by value, after a chunk was handed out, came back, or was refused.
+use records::COUNTS;
 use records::ClassRecord;
+use records::MOST_ASKS;
 use records::PageNumber;
 ghost use mathlib.Core.Path.{_≡_};
 ghost use Prim.Native.Nat.{_+_, _-_, _%_};
@@ -10,14 +12,14 @@ ghost use Rattle.classes.specs.Classes.{chunkUsed, pageUsed, chunkBack, pageBac
 fn raised(n: u32) -> u32
     ensures { λ r. ⌜ r ≡ raise n ⌝ }
 {
-    if n < 4294967295 { n + 1 } else { n }
+    if n < MOST_ASKS { n + 1 } else { n }
 }
 
 // One more of a count of 24 bits.
 fn one_more(n: u32) -> u32
     ensures { λ r. ⌜ r ≡ n % 16777216 + 1 ⌝ }
 {
-    n % 16777216 + 1
+    n % COUNTS + 1
 }
 
 fn minus(a: u32, b: u32) -> u32
@@ -49,7 +51,7 @@ pub fn page_used(r: ClassRecord, c: u8) -> ClassRecord
     ClassRecord {
         first: PageNumber(r.first.0),
         used: used,
-        total: r.total % 16777216 + more as u32,
+        total: r.total % COUNTS + more as u32,
         reqs: reqs,
         fails: r.fails,
     }

@@ -1,4 +1,6 @@
 // The free runs beside a page: how long the one is that starts there, and the one that ends right before it.
+use records::FIRST_FREE;
+use records::INSIDE_FREE;
 use records::Links;
 use records::PageNumber;
 ghost use mathlib.Core.Path.{_≡_};
@@ -15,7 +17,7 @@ pub fn before(p: PageNumber, k: u16) -> PageNumber
 fn len_from(l: Links) -> u16
     ensures { λ r. ⌜ r ≡ lenFrom l ⌝ }
 {
-    if l.kind == 1 { l.run } else { 0 }
+    if l.kind == FIRST_FREE { l.run } else { 0 }
 }
 
 fn run_from(pool: &[u8], w: u8, q: PageNumber) -> u16
@@ -34,10 +36,10 @@ pub fn right_len(pool: &[u8], w: u8, pages: u16, q: PageNumber) -> u16
 fn len_to(l: Links, p: PageNumber) -> u16
     ensures { λ r. ⌜ r ≡ lenTo l (p .0) ⌝ }
 {
-    if l.kind == 1 {
+    if l.kind == FIRST_FREE {
         return 1;
     }
-    if l.kind == 0 {
+    if l.kind == INSIDE_FREE {
         return extents::less(p.0, l.prev.0);
     }
     0

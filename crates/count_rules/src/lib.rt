@@ -1,4 +1,6 @@
 // Rules 5 and 6 of a pool that was scanned: chunks in use, and the counts of header and class records.
+use tally::FAULTS;
+use tally::FREE;
 ghost use mathlib.Core.Path.{_≡_};
 ghost use Prim.Native.Nat.{_<_};
 ghost use Rattle.base.specs.Tests.{allBelow};
@@ -11,7 +13,7 @@ pub fn in_use(pool: &[u8], w: u8, n: usize, t: &[u64; 11]) -> bool
     requires { ⌜ Scanned w (now pool) n (now t) ⌝ }
     ensures { λ r. ⌜ r ≡ rule5 (fieldsOf w (now (pool .entry))) n ⌝ }
 {
-    totals::low(t, 10) == 0
+    totals::low(t, FAULTS) == 0
 }
 
 fn class_counts(pool: &[u8], w: u8, n: usize, t: &[u64; 11], c: u8) -> bool
@@ -20,7 +22,7 @@ fn class_counts(pool: &[u8], w: u8, n: usize, t: &[u64; 11], c: u8) -> bool
 {
     let r = class_records::get_class(pool, w, c);
     let used = totals::low(t, c as usize);
-    let total = totals::middle(t, c as usize) * tally::chunks_of(c) as u64;
+    let total = totals::middle(t, c as usize) * classes::total_count(c) as u64;
     tests::both(r.used as u64 == used, r.total as u64 == total)
 }
 
@@ -44,7 +46,7 @@ pub fn counts_fit(pool: &[u8], w: u8, n: usize, t: &[u64; 11]) -> bool
     ensures { λ r. ⌜ r ≡ rule6 (fieldsOf w (now (pool .entry))) n ⌝ }
 {
     let h = headers::get_header(pool);
-    let free = totals::low(t, 9);
+    let free = totals::low(t, FREE);
     let fit = all_counts(pool, w, n, t);
     tests::both(h.free_pages as u64 == free, fit)
 }

@@ -115,28 +115,28 @@ module _ (w : ℕ) (wide : 2 ≤ w) (narrow : w ≤ 255) (s : List ℕ) (B : Byt
 
 -- ---- from what validation answers
 
-pub refused-unsound : (s : List ℕ) (call : Call) (t : Bool) → t ≡ eqb (brokenRule 2 s) 0 → not t ≡ true →
-    (refused NotSound ≡ answered 2 s call) × (s ≡ after 2 s call)
-unfolding answered after
-refused-unsound s call t e n =
-    let f : eqb (brokenRule 2 s) 0 ≡ false = sym e ∙ not-true t n in
-    (sym (pick-no _ _ _ f), sym (pick-no _ _ _ f))
+module _ (w : ℕ) (s : List ℕ) (t : Bool) (e : t ≡ eqb (brokenRule w s) 0) where
+  pub refused-unsound : (call : Call) → not t ≡ true → (refused NotSound ≡ answered w s call) × (s ≡ after w s call)
+  unfolding answered after
+  refused-unsound call n =
+      let f : eqb (brokenRule w s) 0 ≡ false = sym e ∙ not-true t n in
+      (sym (pick-no _ _ _ f), sym (pick-no _ _ _ f))
 
-module _ (s : List ℕ) (B : Bytes s) (t : Bool) (e : t ≡ eqb (brokenRule 2 s) 0) (n : not t ≡ false) (pages : ℕ) (p : pages ≡ pageCount 2 (length s) % 65536) where
-  sound : brokenRule 2 s ≡ 0
-  sound = eqb-true _ _ (sym e ∙ not-false t n)
+  module _ (wide : 2 ≤ w) (narrow : w ≤ 255) (B : Bytes s) (n : not t ≡ false) (pages : ℕ) (p : pages ≡ pageCount w (length s) % 65536) where
+    sound : brokenRule w s ≡ 0
+    sound = eqb-true _ _ (sym e ∙ not-false t n)
 
-  pages-are : pages ≡ pagesIn 2 s
-  pages-are = p ∙ omega (arith, few 2 (omega arith) (omega arith) s B sound)
+    pages-are : pages ≡ pagesIn w s
+    pages-are = p ∙ omega (arith, few w wide narrow s B sound)
 
-  pub alloc-steps : (size : ℕ) (o : Outcome) (u : List ℕ) → o ≡ allocOutcome 2 s pages size → u ≡ allocSlice 2 s pages size →
-      (o ≡ answered 2 s (Alloc size)) × (u ≡ after 2 s (Alloc size))
-  alloc-steps size o u a b =
-      let M = alloc-met 2 (omega arith) (omega arith) s B sound size in
-      (a ∙ ap (λ (k : ℕ). allocOutcome 2 s k size) pages-are ∙ M .0, b ∙ ap (λ (k : ℕ). allocSlice 2 s k size) pages-are ∙ M .1)
+    pub alloc-steps : (size : ℕ) (o : Outcome) (u : List ℕ) → o ≡ allocOutcome w s pages size → u ≡ allocSlice w s pages size →
+        (o ≡ answered w s (Alloc size)) × (u ≡ after w s (Alloc size))
+    alloc-steps size o u a b =
+        let M = alloc-met w wide narrow s B sound size in
+        (a ∙ ap (λ (k : ℕ). allocOutcome w s k size) pages-are ∙ M .0, b ∙ ap (λ (k : ℕ). allocSlice w s k size) pages-are ∙ M .1)
 
-  pub free-steps : (off : ℕ) (o : Outcome) (u : List ℕ) → o ≡ freeOutcome 2 s pages off → u ≡ freeSlice 2 s pages off →
-      (o ≡ answered 2 s (Free off)) × (u ≡ after 2 s (Free off))
-  free-steps off o u a b =
-      let M = free-met 2 (omega arith) (omega arith) s B sound off in
-      (a ∙ ap (λ (k : ℕ). freeOutcome 2 s k off) pages-are ∙ M .0, b ∙ ap (λ (k : ℕ). freeSlice 2 s k off) pages-are ∙ M .1)
+    pub free-steps : (off : ℕ) (o : Outcome) (u : List ℕ) → o ≡ freeOutcome w s pages off → u ≡ freeSlice w s pages off →
+        (o ≡ answered w s (Free off)) × (u ≡ after w s (Free off))
+    free-steps off o u a b =
+        let M = free-met w wide narrow s B sound off in
+        (a ∙ ap (λ (k : ℕ). freeOutcome w s k off) pages-are ∙ M .0, b ∙ ap (λ (k : ℕ). freeSlice w s k off) pages-are ∙ M .1)

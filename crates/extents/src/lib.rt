@@ -2,6 +2,7 @@
 // Sums of page numbers and counts wrap, so that nothing is required; within a pool none does.
 use records::Header;
 use records::Links;
+use records::NO_PAGE;
 use records::PageNumber;
 ghost use mathlib.Core.Path.{_≡_};
 ghost use Prim.Native.Nat.{_+_, _-_};
@@ -34,7 +35,7 @@ pub fn plain_links(kind: u8, run: u16, prev: PageNumber) -> Links
         kind: kind,
         class: 0,
         run: run,
-        next: PageNumber(65535),
+        next: PageNumber(NO_PAGE),
         prev: PageNumber(prev.0),
     }
 }
@@ -60,8 +61,8 @@ pub fn first_fit(pool: &[u8], w: u8, pages: u16, k: u32) -> PageNumber
     let mut p = h.first_run.0;
     let mut i = pages;
     while 0 < i {
-        if p == 65535 {
-            return PageNumber(65535);
+        if p == NO_PAGE {
+            return PageNumber(NO_PAGE);
         }
         let l = page_records::get_links(pool, w, PageNumber(p));
         if k <= l.run as u32 {
@@ -70,5 +71,5 @@ pub fn first_fit(pool: &[u8], w: u8, pages: u16, k: u32) -> PageNumber
         p = l.next.0;
         i -= 1;
     }
-    PageNumber(65535)
+    PageNumber(NO_PAGE)
 }

@@ -1,9 +1,16 @@
-// Format: makes a pool of edition 1 of a slice.
+// Format: makes a pool of a slice. `w` is the number of words of a class record.
 use answers::Refusal;
+use records::CLASS_WORD;
 use records::ClassRecord;
+use records::FIRST_FREE;
+use records::HEADER;
 use records::Header;
+use records::INSIDE_FREE;
 use records::Links;
+use records::NO_PAGE;
+use records::PAGE_AND_RECORD;
 use records::PageNumber;
+use records::TOO_LONG;
 ghost use mathlib.Core.Path.{_≡_};
 ghost use Prim.Native.Nat.{_≤_, _<_};
 ghost use lib.ListN.{length};
@@ -35,7 +42,7 @@ fn empty_class() -> ClassRecord
     ensures { λ r. ⌜ r ≡ emptyClass ⌝ }
 {
     ClassRecord {
-        first: PageNumber(65535),
+        first: PageNumber(NO_PAGE),
         used: 0,
         total: 0,
         reqs: 0,
@@ -47,10 +54,10 @@ fn inside_free(prev: PageNumber) -> Links
     ensures { λ r. ⌜ r ≡ insideFree (prev .0) ⌝ }
 {
     Links {
-        kind: 0,
+        kind: INSIDE_FREE,
         class: 0,
         run: 0,
-        next: PageNumber(65535),
+        next: PageNumber(NO_PAGE),
         prev: PageNumber(prev.0),
     }
 }
@@ -59,11 +66,11 @@ fn first_free(pages: u16) -> Links
     ensures { λ r. ⌜ r ≡ firstFree pages ⌝ }
 {
     Links {
-        kind: 1,
+        kind: FIRST_FREE,
         class: 0,
         run: pages,
-        next: PageNumber(65535),
-        prev: PageNumber(65535),
+        next: PageNumber(NO_PAGE),
+        prev: PageNumber(NO_PAGE),
     }
 }
 
@@ -94,7 +101,7 @@ fn clear_pages(pool: &mut [u8], w: u8, pages: u16)
         2 + 9 * w as u16,
         2,
         pages,
-        page_records::pack_links(inside_free(PageNumber(65535))),
+        page_records::pack_links(inside_free(PageNumber(NO_PAGE))),
     );
 }
 
@@ -119,17 +126,19 @@ fn write_records(pool: &mut [u8], w: u8, pages: u16)
 }
 
 // Makes a pool of as many pages as the slice has room for. Page bytes and tail stay.
-pub fn format(pool: &mut [u8]) -> Formatted
-    ensures { λ r. ⌜ (outcomeOf r ≡ formatOutcome 2 (length (now (pool .entry)))) × (now (pool .exit) ≡ formatted 2 (now (pool .entry))) ⌝ }
+pub fn format(pool: &mut [u8], w: u8) -> Formatted
+    requires { ⌜ 2 ≤ w ⌝ }
+    ensures { λ r. ⌜ (outcomeOf r ≡ formatOutcome w (length (now (pool .entry)))) × (now (pool .exit) ≡ formatted w (now (pool .entry))) ⌝ }
 {
     let len = pool.len();
-    if len < 4264 {
+    let head = HEADER + CLASS_WORD * w as usize;
+    if len < head + PAGE_AND_RECORD {
         return Formatted::Refused(Refusal::TooShort);
     }
-    if 1056936 <= len {
+    if head + TOO_LONG <= len {
         return Formatted::Refused(Refusal::TooLong);
     }
-    let pages = ((len - 152) / 4112) as u16;
-    write_records(pool, 2, pages);
+    let pages = ((len - head) / PAGE_AND_RECORD) as u16;
+    write_records(pool, w, pages);
     Formatted::Pages(pages)
 }

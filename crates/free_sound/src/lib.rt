@@ -1,8 +1,12 @@
 // Free on sound records: only the records that change are touched.
 use answers::Refusal;
 use freeing::Freed;
+use records::CLASS_PAGE;
+use records::FIRST_FREE;
+use records::FIRST_TAKEN;
 use records::Links;
 use records::Offset;
+use records::PAGE;
 use records::PageNumber;
 ghost use mathlib.Core.Path.{_≡_};
 ghost use Rattle.answers.specs.Outcome.{granted};
@@ -31,13 +35,13 @@ fn free_run(pool: &mut [u8], w: u8, pages: u16, n: u16, p: PageNumber, q: u32) -
 fn free_kind(pool: &mut [u8], w: u8, pages: u16, p: PageNumber, q: u32, l: Links) -> Freed
     ensures { λ r. ⌜ (outcomeOf r ≡ kindOutcome w (now (pool .entry)) pages (p .0) q l) × (now (pool .exit) ≡ kindSlice w (now (pool .entry)) pages (p .0) q l) ⌝ }
 {
-    if l.kind <= 1 {
+    if l.kind <= FIRST_FREE {
         return Freed::Refused(Refusal::NotTaken);
     }
-    if l.kind == 2 {
+    if l.kind == CLASS_PAGE {
         return free_to_class::free_class(pool, w, pages, l.class, p, q);
     }
-    if l.kind == 3 {
+    if l.kind == FIRST_TAKEN {
         return free_run(pool, w, pages, l.run, p, q);
     }
     Freed::Refused(Refusal::NotAStart)
@@ -55,14 +59,14 @@ pub fn free_sound(pool: &mut [u8], w: u8, pages: u16, at: Offset) -> Freed
     ensures { λ r. ⌜ (outcomeOf r ≡ freeOutcome w (now (pool .entry)) pages (at .0)) × (now (pool .exit) ≡ freeSlice w (now (pool .entry)) pages (at .0)) ⌝ }
 {
     let x = at.0;
-    if pages as u32 <= x / 4096 {
+    if pages as u32 <= x / PAGE {
         return Freed::Refused(Refusal::Outside);
     }
     free_page(
         pool,
         w,
         pages,
-        PageNumber((x / 4096 % 65536) as u16),
-        x % 4096,
+        PageNumber((x / PAGE % 65536) as u16),
+        x % PAGE,
     )
 }

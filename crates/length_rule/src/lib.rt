@@ -1,4 +1,8 @@
 // Rule 1: the page count that a length gives, and the header.
+use records::CLASS_WORD;
+use records::HEADER;
+use records::MOST_PAGES;
+use records::PAGE_AND_RECORD;
 ghost use mathlib.Core.Path.{_≡_};
 ghost use Rattle.records.specs.Layout.{pageCount};
 ghost use Rattle.rules.specs.Bytes.{pagesIn, rule1};
@@ -7,7 +11,7 @@ ghost use Rattle.rules.specs.Bytes.{pagesIn, rule1};
 pub fn page_count(w: u8, len: usize) -> usize
     ensures { λ r. ⌜ r ≡ pageCount w len ⌝ }
 {
-    tests::minus(len, 8 + 72 * w as usize) / 4112
+    tests::minus(len, HEADER + CLASS_WORD * w as usize) / PAGE_AND_RECORD
 }
 
 pub fn header_fits(pool: &[u8], w: u8, n: usize) -> bool
@@ -16,11 +20,11 @@ pub fn header_fits(pool: &[u8], w: u8, n: usize) -> bool
 {
     let h = headers::get_header(pool);
     let edition = tests::minus(w as usize, 1);
-    let least = 8 + 72 * w as usize + 4112;
+    let least = HEADER + CLASS_WORD * w as usize + PAGE_AND_RECORD;
     let len = pool.len();
     tests::all6(
         least <= len,
-        n <= 256,
+        n <= MOST_PAGES,
         h.edition as usize == edition,
         h.min_shift == 3,
         h.page_shift == 12,

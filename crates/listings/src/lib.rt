@@ -1,4 +1,6 @@
 // Rules 3 and 4 of a pool that was scanned: the free-run list and the nine class lists, each walked once.
+use tally::FAULTS;
+use tally::FREE;
 ghost use mathlib.Core.Path.{_≡_};
 ghost use Prim.Native.Nat.{_<_};
 ghost use Rattle.base.specs.Tests.{allBelow};
@@ -12,7 +14,7 @@ pub fn free_list(pool: &[u8], w: u8, n: usize, t: &[u64; 11]) -> bool
     ensures { λ r. ⌜ r ≡ rule3 (fieldsOf w (now (pool .entry))) n ⌝ }
 {
     let h = headers::get_header(pool);
-    let heads = totals::middle(t, 9) as usize;
+    let heads = totals::middle(t, FREE) as usize;
     walk::follow(pool, w, n, 9, heads, h.first_run.0 as usize)
 }
 
@@ -46,6 +48,6 @@ pub fn class_pages_listed(pool: &[u8], w: u8, n: usize, t: &[u64; 11]) -> bool
     ensures { λ r. ⌜ r ≡ rule4 (fieldsOf w (now (pool .entry))) n ⌝ }
 {
     let linked = class_lists(pool, w, n, t);
-    let strays = totals::middle(t, 10);
+    let strays = totals::middle(t, FAULTS);
     tests::both(linked, strays == 0)
 }

@@ -1,5 +1,6 @@
 // The next and the previous page of a page on a list. They stand in the page records; before a list's first page stands the list itself.
 use records::Links;
+use records::NO_PAGE;
 use records::PageNumber;
 ghost use mathlib.Core.Path.{_≡_};
 ghost use Rattle.lists.specs.Links.{between, linkedNext, linkedPrev, withNext, withPrev};
@@ -35,7 +36,7 @@ fn link_prev(pool: &mut [u8], w: u8, p: PageNumber, v: PageNumber)
 pub fn put_next(pool: &mut [u8], w: u8, list: u8, p: PageNumber, v: PageNumber)
     ensures { λ _. ⌜ now (pool .exit) ≡ withNext w (now (pool .entry)) list (p .0) (v .0) ⌝ }
 {
-    if p.0 == 65535 {
+    if p.0 == NO_PAGE {
         heads::put_first(pool, w, list, v);
     } else {
         link_next(pool, w, p, v);
@@ -46,7 +47,7 @@ pub fn put_next(pool: &mut [u8], w: u8, list: u8, p: PageNumber, v: PageNumber)
 pub fn put_prev(pool: &mut [u8], w: u8, p: PageNumber, v: PageNumber)
     ensures { λ _. ⌜ now (pool .exit) ≡ withPrev w (now (pool .entry)) (p .0) (v .0) ⌝ }
 {
-    if p.0 != 65535 {
+    if p.0 != NO_PAGE {
         link_prev(pool, w, p, v);
     }
 }

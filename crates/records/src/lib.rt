@@ -2,7 +2,40 @@
 ghost use mathlib.Core.Path.{_≡_};
 ghost use Prim.Native.Nat.{_+_, _*_};
 
-// A page by its number; 65535 means no page.
+// Where no page is meant: after a list's last page, before its first, and in a link without use.
+pub const NO_PAGE: u16 = 65535;
+
+// What a page is.
+pub const INSIDE_FREE: u8 = 0;
+
+pub const FIRST_FREE: u8 = 1;
+
+pub const CLASS_PAGE: u8 = 2;
+
+pub const FIRST_TAKEN: u8 = 3;
+
+pub const INSIDE_TAKEN: u8 = 4;
+
+// Bytes: of a page, of a page and its record, of the header, and of one word of the nine class records.
+pub const PAGE: u32 = 4096;
+
+pub const PAGE_AND_RECORD: usize = 4112;
+
+pub const HEADER: usize = 8;
+
+pub const CLASS_WORD: usize = 72;
+
+// The most pages of a pool (`maxPages`), and the bytes of one more with their records.
+pub const MOST_PAGES: usize = 256;
+
+pub const TOO_LONG: usize = PAGE_AND_RECORD * (MOST_PAGES + 1);
+
+// Counts of chunks have 24 bits; tallies stop at the largest number of 32 bits (`most`).
+pub const COUNTS: u32 = 16777216;
+
+pub const MOST_ASKS: u32 = 4294967295;
+
+// A page by its number, or NO_PAGE.
 pub struct PageNumber(pub u16);
 
 // A byte by its distance from the first page's first byte.

@@ -1,5 +1,6 @@
 // The operations on the ten lists: a page leaves its list, comes in front of it, or takes the place of another.
 use records::Links;
+use records::NO_PAGE;
 use records::PageNumber;
 ghost use mathlib.Core.Path.{_≡_};
 ghost use Rattle.lists.specs.Links.{unlinked, pushedBefore, pushed, replaced};
@@ -19,7 +20,7 @@ fn push_before(pool: &mut [u8], w: u8, list: u8, p: PageNumber, l: Links, h: Pag
         pool,
         w,
         p,
-        neighbours::between_pages(l, PageNumber(65535), h),
+        neighbours::between_pages(l, PageNumber(NO_PAGE), h),
     );
     neighbours::put_prev(pool, w, h, p);
     heads::put_first(pool, w, list, p);

@@ -1,5 +1,9 @@
 // Pages taken from the front of a free run.
+use records::FIRST_FREE;
+use records::FIRST_TAKEN;
+use records::INSIDE_TAKEN;
 use records::Links;
+use records::NO_PAGE;
 use records::PageNumber;
 ghost use mathlib.Core.Path.{_≡_};
 ghost use Rattle.extents.specs.Extents.{fewerFree, restKept, frontCut, frontOff, frontPage, runTaken};
@@ -23,7 +27,7 @@ fn keep_rest(pool: &mut [u8], w: u8, p: PageNumber, k: u16, l: Links)
         0,
         l,
         t,
-        extents::plain_links(1, n, PageNumber(65535)),
+        extents::plain_links(FIRST_FREE, n, PageNumber(NO_PAGE)),
     );
     run_records::put_back(pool, w, t, n);
 }
@@ -58,6 +62,17 @@ pub fn take_run(pool: &mut [u8], w: u8, p: PageNumber, k: u16)
     ensures { λ _. ⌜ now (pool .exit) ≡ runTaken w (now (pool .entry)) (p .0) k ⌝ }
 {
     take_front(pool, w, p, k);
-    run_records::fill(pool, w, p, k, extents::plain_links(4, 0, PageNumber(65535)));
-    page_records::put_links(pool, w, p, extents::plain_links(3, k, PageNumber(65535)));
+    run_records::fill(
+        pool,
+        w,
+        p,
+        k,
+        extents::plain_links(INSIDE_TAKEN, 0, PageNumber(NO_PAGE)),
+    );
+    page_records::put_links(
+        pool,
+        w,
+        p,
+        extents::plain_links(FIRST_TAKEN, k, PageNumber(NO_PAGE)),
+    );
 }

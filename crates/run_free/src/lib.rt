@@ -1,4 +1,7 @@
 // Pages released: they join the free runs beside them, and the whole becomes the head of the list.
+use records::FIRST_FREE;
+use records::INSIDE_FREE;
+use records::NO_PAGE;
 use records::PageNumber;
 ghost use mathlib.Core.Path.{_≡_};
 ghost use Prim.Native.Nat.{_+_};
@@ -48,7 +51,7 @@ fn blank(pool: &mut [u8], w: u8, p: PageNumber, k: u16, a: u16, b: u16)
         w,
         coalesce::before(p, one_of(a)),
         sum(one_of(a), k, one_of(b)),
-        extents::plain_links(0, 0, PageNumber(65535)),
+        extents::plain_links(INSIDE_FREE, 0, PageNumber(NO_PAGE)),
     );
 }
 
@@ -57,7 +60,13 @@ fn push_run(pool: &mut [u8], w: u8, t: PageNumber, n: u16)
     ensures { λ _. ⌜ now (pool .exit) ≡ runPushed w (now (pool .entry)) (t .0) n ⌝ }
 {
     run_records::put_back(pool, w, t, n);
-    relinking::push_front(pool, w, 0, t, extents::plain_links(1, n, PageNumber(65535)));
+    relinking::push_front(
+        pool,
+        w,
+        0,
+        t,
+        extents::plain_links(FIRST_FREE, n, PageNumber(NO_PAGE)),
+    );
 }
 
 fn join(pool: &mut [u8], w: u8, p: PageNumber, k: u16, a: u16, b: u16)

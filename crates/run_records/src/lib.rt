@@ -1,4 +1,5 @@
 // The page records of a run.
+use records::INSIDE_FREE;
 use records::Links;
 use records::PageNumber;
 ghost use mathlib.Core.Path.{_≡_};
@@ -22,7 +23,7 @@ fn put_last(pool: &mut [u8], w: u8, t: PageNumber, n: u16)
         pool,
         w,
         extents::after(t, extents::less(n, 1)),
-        extents::plain_links(0, 0, t),
+        extents::plain_links(INSIDE_FREE, 0, t),
     );
 }
 

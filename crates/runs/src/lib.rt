@@ -1,4 +1,7 @@
 // Rule 2 for free runs and taken runs, a run at a time: the pages after its first are told by their words.
+use records::FIRST_FREE;
+use records::INSIDE_TAKEN;
+use records::NO_PAGE;
 ghost use mathlib.Core.Path.{_≡_};
 ghost use Prim.Native.Nat.{_+_, _≤_, _<_};
 ghost use Rattle.records.specs.Page.{unpackLinks};
@@ -7,11 +10,11 @@ ghost use Rattle.rules.specs.Bytes.{fieldsOf};
 ghost use Rattle.runs.specs.Whole.{plainAt, plainFrom, lastPlain, freeInside, freeRest, freeWhole, takenRest, takenWhole};
 
 // The links of a page inside a free run, but for its last: next and previous none, the rest 0.
-const INSIDE_FREE: u64 = 2199023255040;
+const FREE_LINKS: u64 = 2199023255040;
 // Of the last page of the run that page 0 begins; previous is from bit 9 on.
-const LAST_FREE: u64 = 2198989701120;
+const LAST_LINKS: u64 = 2198989701120;
 // Of a page inside a taken run: kind 4, next and previous none, the rest 0.
-const INSIDE_TAKEN: u64 = 9223374235878030848;
+const TAKEN_LINKS: u64 = 9223374235878030848;
 
 // Whether page p has the links of the word v and no map.
 fn plain_at(pool: &[u8], w: u8, p: usize, v: u64) -> bool
@@ -44,7 +47,7 @@ fn ends_free(pool: &[u8], w: u8, n: usize, x: usize) -> bool
     ensures { λ r. ⌜ r ≡ endsFree (fieldsOf w (now (pool .entry))) n x ⌝ }
 {
     if x < n {
-        return 1 < fields::kind_of(pool, w, x);
+        return FIRST_FREE < fields::kind_of(pool, w, x);
     }
     true
 }
@@ -55,7 +58,7 @@ fn last_plain(pool: &[u8], w: u8, p: usize, k: usize) -> bool
     ensures { λ r. ⌜ r ≡ lastPlain w (now (pool .entry)) p k ⌝ }
 {
     if 1 < k {
-        return plain_at(pool, w, p + k - 1, LAST_FREE + 512 * p as u64);
+        return plain_at(pool, w, p + k - 1, LAST_LINKS + 512 * p as u64);
     }
     true
 }
@@ -66,7 +69,7 @@ fn free_inside(pool: &[u8], w: u8, p: usize, k: usize) -> bool
     ensures { λ r. ⌜ r ≡ freeInside w (now (pool .entry)) p k ⌝ }
 {
     if last_plain(pool, w, p, k) {
-        plain_from(pool, w, p + 1, tests::minus(k, 2), INSIDE_FREE)
+        plain_from(pool, w, p + 1, tests::minus(k, 2), FREE_LINKS)
     } else {
         false
     }
@@ -105,7 +108,7 @@ fn ends_taken(pool: &[u8], w: u8, n: usize, x: usize) -> bool
     ensures { λ r. ⌜ r ≡ endsTaken (fieldsOf w (now (pool .entry))) n x ⌝ }
 {
     if x < n {
-        return fields::kind_of(pool, w, x) != 4;
+        return fields::kind_of(pool, w, x) != INSIDE_TAKEN;
     }
     true
 }
@@ -115,7 +118,7 @@ fn taken_rest(pool: &[u8], w: u8, n: usize, p: usize, k: usize) -> bool
     ensures { λ r. ⌜ r ≡ takenRest w (now (pool .entry)) n p k ⌝ }
 {
     if ends_taken(pool, w, n, p + k) {
-        plain_from(pool, w, p + 1, k - 1, INSIDE_TAKEN)
+        plain_from(pool, w, p + 1, k - 1, TAKEN_LINKS)
     } else {
         false
     }
@@ -132,8 +135,8 @@ pub fn taken_whole(pool: &[u8], w: u8, n: usize, p: usize, v: u64) -> bool
     if tests::all6(
         l.class == 0,
         map == 0,
-        l.next.0 == 65535,
-        l.prev.0 == 65535,
+        l.next.0 == NO_PAGE,
+        l.prev.0 == NO_PAGE,
         0 < k,
         p + k <= n,
     ) {

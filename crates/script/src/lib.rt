@@ -64,7 +64,7 @@ fn serve_lines(pool: &mut [u8], input: &[u8], out: &mut [u8], n: usize) -> usize
 fn start(pool: &mut [u8], out: &mut [u8]) -> usize
     ensures { λ r. ⌜ (r ≡ length (formatLine (formatOutcome 2 (length (now (pool .entry)))))) × (now (out .exit) ≡ written (now (out .entry)) 0 (formatLine (formatOutcome 2 (length (now (pool .entry)))))) × (now (pool .exit) ≡ formatted 2 (now (pool .entry))) × (r ≤ 16) ⌝ }
 {
-    replies::put_formatted(out, 0, format::format(pool))
+    replies::put_formatted(out, 0, pool::format(pool))
 }
 
 fn serve_fresh(pool: &mut [u8], input: &[u8], out: &mut [u8]) -> usize

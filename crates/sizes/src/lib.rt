@@ -1,5 +1,6 @@
 // Sizes, classes and offsets.
 use records::Offset;
+use records::PAGE;
 use records::PageNumber;
 ghost use mathlib.Core.Path.{_≡_};
 ghost use Prim.Native.Nat.{_+_, _*_, _≤_};
@@ -21,7 +22,7 @@ pub fn class_for(size: u32) -> u8
 pub fn pages_for(size: u32) -> u32
     ensures { λ r. ⌜ r ≡ pagesFor size ⌝ }
 {
-    size / 4096 + (size % 4096 + 4095) / 4096
+    size / PAGE + (size % PAGE + 4095) / PAGE
 }
 
 // The offset of byte x of page p.
@@ -29,7 +30,7 @@ pub fn offset_in(p: PageNumber, x: u32) -> Offset
     requires { ⌜ x ≤ 268435455 ⌝ }
     ensures { λ r. ⌜ r .0 ≡ 4096 * p .0 + x ⌝ }
 {
-    Offset(4096 * p.0 as u32 + x)
+    Offset(PAGE * p.0 as u32 + x)
 }
 
 // The bytes of a chunk.

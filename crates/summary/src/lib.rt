@@ -1,6 +1,7 @@
 // The last line of a printout: the free pages and the free runs, as the pool's records tell them.
 use printing::put_line;
 use printing::put_phrase;
+use records::FIRST_FREE;
 use tests::one_if;
 ghost use mathlib.Core.Path.{_≡_};
 ghost use Prim.Native.Nat.{_≤_};
@@ -16,7 +17,7 @@ fn free_runs(pool: &[u8], w: u8, n: usize) -> u32
     let mut runs: u64 = 0;
     let mut p = 0;
     while p < n {
-        runs += one_if(fields::kind_at(pool, w, n, 1, p));
+        runs += one_if(fields::kind_at(pool, w, n, FIRST_FREE, p));
         p += 1;
     }
     runs as u32

@@ -13,41 +13,6 @@ use Rattle.rules.specs.Bytes.{pagesIn, mapBase}
 use Rattle.records.specs.declared.Links.{Links}
 use Rattle.tally.specs.Tally.{onesAt, addAt, classAdded, kindAdded, pageAdded}
 
-module _ (c : ℕ) where
-  pub own-8 : c ≡ 0 → (8 ≡ own c) × (8 ≤ 8)
-  unfolding own
-  own-8 e = (rw e, omega arith)
-
-  pub own-2 : c ≡ 1 → (2 ≡ own c) × (2 ≤ 8)
-  unfolding own
-  own-2 e = (rw e, omega arith)
-
-  pub own-1 : c ≡ 2 → (1 ≡ own c) × (1 ≤ 8)
-  unfolding own
-  own-1 e = (rw e, omega arith)
-
-pub own-0 : (c : ℕ) → c ≢ 0 → c ≢ 1 → c ≢ 2 → (0 ≡ own c) × (0 ≤ 8)
-unfolding own
-own-0 zero a b d = absurd (a refl)
-own-0 (suc zero) a b d = absurd (b refl)
-own-0 (suc (suc zero)) a b d = absurd (d refl)
-own-0 (suc (suc (suc c))) a b d = (refl, omega arith)
-
-pub ruleset owns = (own-8, own-2, own-1, own-0, needs)
-
-pub chunks-shift : (c : ℕ) → c ≤ 8 → 512 / 2 ^ c ≡ chunks c
-unfolding chunks
-chunks-shift zero h = refl
-chunks-shift (suc zero) h = refl
-chunks-shift (suc (suc zero)) h = refl
-chunks-shift (suc (suc (suc zero))) h = refl
-chunks-shift (suc (suc (suc (suc zero)))) h = refl
-chunks-shift (suc (suc (suc (suc (suc zero))))) h = refl
-chunks-shift (suc (suc (suc (suc (suc (suc zero)))))) h = refl
-chunks-shift (suc (suc (suc (suc (suc (suc (suc zero))))))) h = refl
-chunks-shift (suc (suc (suc (suc (suc (suc (suc (suc zero)))))))) h = refl
-chunks-shift (suc (suc (suc (suc (suc (suc (suc (suc (suc c))))))))) h = absurd (omega arith)
-
 pub ones-read : (w : ℕ) (s : List ℕ) (n p c k r : ℕ) → n ≡ pagesIn w s → 8 * k ≡ mapBase w n p c → r ≡ count (mark s (8 * k)) (mapBits c) → r ≡ onesAt w s p c
 unfolding onesAt
 ones-read w s n p c k r e d q = q ∙ rw (d, e)

@@ -1,4 +1,8 @@
 // One pass over the pages, a run or a class page at a time: rule 2, and what the other rules need to know of all pages, in eleven counters.
+use records::CLASS_PAGE;
+use records::FIRST_FREE;
+use records::FIRST_TAKEN;
+use records::NO_PAGE;
 ghost use mathlib.Core.Path.{_≡_};
 ghost use mathlib.Core.Bool.{true};
 ghost use Prim.Native.Nat.{ℕ, _≤_, _<_};
@@ -10,30 +14,21 @@ ghost use Rattle.rules.specs.Bytes.{pagesIn, fieldsOf};
 ghost use Rattle.runs.specs.Whole.{Border};
 ghost use Rattle.tally.specs.Tally.{Counted, Here, Steps, onesAt, classWeight, strays, classFault, addAt, classAdded};
 
+// The eleven counters: one for each class, and these for free pages and for faults.
+pub const FREE: usize = 9;
+
+pub const FAULTS: usize = 10;
+
+// Where the second and the third count of a counter begin.
+pub const SECOND: u64 = 4294967296;
+
+pub const THIRD: u64 = 281474976710656;
+
 fn add(t: &mut [u64; 11], j: usize, x: u64)
     requires { ⌜ j < 11 ⌝ }
     ensures { λ _. ⌜ now (t .exit) ≡ addAt (now (t .entry)) j x ⌝ }
 {
     t[j] = std::num::wrapping_add_u64(t[j], x);
-}
-
-fn own_of(c: u8) -> usize
-    ensures { λ r. ⌜ (r ≡ own c) × (r ≤ 8) ⌝ }
-{
-    match c {
-        0 => 8,
-        1 => 2,
-        2 => 1,
-        _ => 0,
-    }
-}
-
-// The chunks that a page of class c is cut into.
-pub fn chunks_of(c: u8) -> usize
-    requires { ⌜ c ≤ 8 ⌝ }
-    ensures { λ r. ⌜ r ≡ chunks c ⌝ }
-{
-    512 >> c
 }
 
 // The set marks of page p of n, which has class c.
@@ -44,32 +39,36 @@ pub fn ones_of(pool: &[u8], w: u8, n: usize, p: usize, c: u8) -> usize
     popcount::count_marks(pool, fields::map_at(w, n, p, c), c)
 }
 
+// What a page of class c with so many set marks adds to the counter of its class: chunks in use, a page, an open page.
 fn class_weight(c: u8, ones: usize) -> u64
-    requires { ⌜ (c ≤ 8) × (ones ≤ 512) ⌝ }
+    requires { ⌜ ones ≤ 512 ⌝ }
     ensures { λ r. ⌜ r ≡ classWeight c ones ⌝ }
 {
-    let used = tests::minus(ones, own_of(c)) as u64;
-    let open = tests::one_if(ones < chunks_of(c));
-    used + 4294967296 + 281474976710656 * open
+    let own = classes::own_count(c);
+    let chunks = classes::chunk_count(c);
+    let used = tests::minus(ones, own as usize) as u64;
+    let open = tests::one_if(ones < chunks as usize);
+    used + SECOND + THIRD * open
 }
 
 // Whether the page is full and has links.
 fn strays_of(c: u8, ones: usize, next: u16, prev: u16) -> bool
-    requires { ⌜ c ≤ 8 ⌝ }
     ensures { λ r. ⌜ r ≡ strays c ones next prev ⌝ }
 {
-    let alone = tests::both(next == 65535, prev == 65535);
-    tests::both(chunks_of(c) <= ones, !alone)
+    let alone = tests::both(next == NO_PAGE, prev == NO_PAGE);
+    let chunks = classes::chunk_count(c);
+    tests::both(chunks as usize <= ones, !alone)
 }
 
+// What it adds to the counter of faults: a page not in use, a full page with links.
 fn class_fault(c: u8, ones: usize, v: u64) -> u64
-    requires { ⌜ c ≤ 8 ⌝ }
     ensures { λ r. ⌜ r ≡ classFault c ones (unpackLinks v) ⌝ }
 {
     let l = page_records::unpack_links(v);
-    let unused = tests::one_if(ones <= own_of(c));
+    let own = classes::own_count(c);
+    let unused = tests::one_if(ones <= own as usize);
     let stray = tests::one_if(strays_of(c, ones, l.next.0, l.prev.0));
-    unused + 4294967296 * stray
+    unused + SECOND * stray
 }
 
 // The class page p, with the links of the word v.
@@ -81,7 +80,7 @@ fn add_class(pool: &[u8], w: u8, n: usize, p: usize, v: u64, t: &mut [u64; 11])
     let c = l.class;
     let ones = ones_of(pool, w, n, p, c);
     add(t, c as usize, class_weight(c, ones));
-    add(t, 10, class_fault(c, ones, v));
+    add(t, FAULTS, class_fault(c, ones, v));
 }
 
 // The free run that begins with page p, with the links of the word v; pass_taken and pass_class likewise.
@@ -94,7 +93,7 @@ fn pass_free(pool: &[u8], w: u8, n: usize, p: usize, v: u64, t: &mut [u64; 11]) 
     }
     let l = page_records::unpack_links(v);
     let k = l.run as usize;
-    add(t, 9, 4294967296 + k as u64);
+    add(t, FREE, SECOND + k as u64);
     p + k
 }
 
@@ -129,9 +128,9 @@ fn pass_kind(pool: &[u8], w: u8, n: usize, p: usize, v: u64, t: &mut [u64; 11]) 
     let l = page_records::unpack_links(v);
     let kind = l.kind;
     match kind {
-        1 => pass_free(pool, w, n, p, v, t),
-        2 => pass_class(pool, w, n, p, v, t),
-        3 => pass_taken(pool, w, n, p, v, t),
+        FIRST_FREE => pass_free(pool, w, n, p, v, t),
+        CLASS_PAGE => pass_class(pool, w, n, p, v, t),
+        FIRST_TAKEN => pass_taken(pool, w, n, p, v, t),
         _ => p,
     }
 }

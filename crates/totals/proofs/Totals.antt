@@ -65,8 +65,8 @@ module _ (v : Fields) (n : ℕ) (t : List ℕ) (most : n ≤ 4096) (K : Counted 
         let e = class-counter in
         omega (arith, used-small, count-le (λ p. isClass c (kindOf (pageAt v n p))) n)
 
-    pub total-is : shown (readFields v n) .total c ≡ getD t c 0 / 4294967296 % 65536 * chunks c
-    unfolding shown readFields totalIn counted
+    pub total-is : shown (readFields v n) .total c ≡ getD t c 0 / 4294967296 % 65536 * counted c
+    unfolding shown readFields totalIn
     total-is = rw (← pages-is)
 
     pub open-is : count (openAt v n c) n ≡ getD t c 0 / 281474976710656

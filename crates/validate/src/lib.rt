@@ -1,4 +1,5 @@
 // Whether a pool's records are sound (document 01: judge): one pass over the pages and one walk along each list.
+// `w` is the number of words of a class record.
 ghost use mathlib.Core.Path.{_≡_};
 ghost use Prim.Native.Nat.{_≤_};
 ghost use lib.Dec.{eqb};
@@ -38,7 +39,8 @@ fn broken_page(pool: &[u8], w: u8, n: usize) -> u8
     broken_list_or_count(pool, w, n, &t)
 }
 
-fn broken(pool: &[u8], w: u8) -> u8
+// The number of the first rule that the pool breaks; 0 where it is sound.
+pub fn broken_rule(pool: &[u8], w: u8) -> u8
     ensures { λ r. ⌜ r ≡ brokenRule w (now (pool .entry)) ⌝ }
 {
     let n = length_rule::page_count(w, pool.len());
@@ -48,21 +50,14 @@ fn broken(pool: &[u8], w: u8) -> u8
     broken_page(pool, w, n)
 }
 
-// The number of the first rule that the pool breaks; 0 where it is sound.
-pub fn broken_rule(pool: &[u8]) -> u8
-    ensures { λ r. ⌜ r ≡ brokenRule 2 (now (pool .entry)) ⌝ }
-{
-    broken(pool, 2)
-}
-
 fn is_none(rule: u8) -> bool
     ensures { λ r. ⌜ r ≡ eqb rule 0 ⌝ }
 {
     rule == 0
 }
 
-pub fn validate(pool: &[u8]) -> bool
-    ensures { λ r. ⌜ r ≡ eqb (brokenRule 2 (now (pool .entry))) 0 ⌝ }
+pub fn validate(pool: &[u8], w: u8) -> bool
+    ensures { λ r. ⌜ r ≡ eqb (brokenRule w (now (pool .entry))) 0 ⌝ }
 {
-    is_none(broken(pool, 2))
+    is_none(broken_rule(pool, w))
 }

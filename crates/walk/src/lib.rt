@@ -1,4 +1,7 @@
 // Walks along the lists of a pool whose pages keep rule 2: with as many pages to come as belong on the list, a walk ends.
+use records::CLASS_PAGE;
+use records::FIRST_FREE;
+use records::NO_PAGE;
 ghost use mathlib.Core.Path.{_≡_};
 ghost use mathlib.Core.Bool.{true, false, not};
 ghost use Prim.Native.Nat.{_/_, _≤_, _<_};
@@ -11,6 +14,9 @@ ghost use Rattle.rules.specs.Rules.{rule2, linked};
 ghost use Rattle.rules.specs.Bytes.{pagesIn, mapBase, fieldsOf};
 ghost use Rattle.occupancy.specs.Occupancy.{isFull};
 ghost use Rattle.walk.specs.Walk.{belongs};
+
+// No page, as a number of pages.
+const NONE: usize = NO_PAGE as usize;
 
 fn next_of(pool: &[u8], w: u8, p: usize) -> usize
     requires { ⌜ p ≤ 65535 ⌝ }
@@ -34,7 +40,7 @@ fn is_head(pool: &[u8], w: u8, n: usize, p: usize) -> bool
     ensures { λ r. ⌜ r ≡ isHead (fieldsOf w (now (pool .entry))) n p ⌝ }
 {
     if p < n {
-        return fields::kind_of(pool, w, p) == 1;
+        return fields::kind_of(pool, w, p) == FIRST_FREE;
     }
     false
 }
@@ -51,7 +57,7 @@ fn open_inside(pool: &[u8], w: u8, n: usize, c: u8, p: usize) -> bool
     ensures { λ r. ⌜ r ≡ pick (pick (eqb (kind (fieldsOf w (now (pool .entry))) p) 2) (eqb (class (fieldsOf w (now (pool .entry))) p) c) false) (not (isFull (now (pool .entry)) (mapBase w n p c / 8) c)) false ⌝ }
 {
     let l = fields::links_of(pool, w, p);
-    if tests::both(l.kind == 2, l.class == c) {
+    if tests::both(l.kind == CLASS_PAGE, l.class == c) {
         not_full(pool, w, n, c, p)
     } else {
         false
@@ -84,7 +90,7 @@ pub fn follow(pool: &[u8], w: u8, n: usize, c: u8, count: usize, first: usize) -
     requires { ⌜ (n ≡ pagesIn w (now pool)) × (n ≤ 65535) × (rule2 (fieldsOf w (now pool)) n ≡ true) × (first ≤ 65535) ⌝ }
     ensures { λ r. ⌜ r ≡ linked (belongs (fieldsOf w (now (pool .entry))) n c) (next (fieldsOf w (now (pool .entry)))) (prev (fieldsOf w (now (pool .entry)))) count noPage first ⌝ }
 {
-    let mut before: usize = 65535;
+    let mut before = NONE;
     let mut at = first;
     let mut left = count;
     while 0 < left {
@@ -98,5 +104,5 @@ pub fn follow(pool: &[u8], w: u8, n: usize, c: u8, count: usize, first: usize) -
         at = next_of(pool, w, at);
         left -= 1;
     }
-    at == 65535
+    at == NONE
 }

@@ -15,11 +15,14 @@ low-requires c κs = search needs
 middle-requires : tie.Need-middle-requires
 middle-requires c κs = search needs
 
-chunks-of-requires : tie.Need-chunks-of-requires
-chunks-of-requires c κs = search needs
+total-count-requires : tie.Need-total-count-requires
+total-count-requires c κs = search needs
+
+cast-total : tie.Need-cast-total
+cast-total c = search needs
 
 mul-total : tie.Need-mul-total
-mul-total c = record { fits = total-fits _ _ _ (c .before .middle .ensures .1) (c .chunks-of .ensures) }
+mul-total c = record { fits = total-fits _ _ _ (c .before .middle .ensures .1) (c .total-count .ensures) }
 
 cast-both : tie.Need-cast-both
 cast-both c = search needs
@@ -32,7 +35,7 @@ both-requires c κs = search needs
 
 returns : tie.Need-returns
 unfolding countsFit fieldsOf imageOf
-returns c = let b = c .before .before .before .before .before .before .before .before in rw (used-is (fieldsOf (b .args .w) (b .args .pool .now)) (b .args .n) (b .args .t .now) (b .pre .0 .most) (b .pre .0 .counted) (b .args .c) (b .pre .1), total-is (fieldsOf (b .args .w) (b .args .pool .now)) (b .args .n) (b .args .t .now) (b .pre .0 .most) (b .pre .0 .counted) (b .args .c) (b .pre .1)) (rw (c .before .before .before .chunks-of .ensures, c .before .before .before .before .middle .ensures .0, c .before .before .before .before .before .low .ensures, c .before .before .before .before .before .before .get-class .ensures) at (c .both .ensures))
+returns c = let b = c .before .before .before .before .before .before .before .before in rw (used-is (fieldsOf (b .args .w) (b .args .pool .now)) (b .args .n) (b .args .t .now) (b .pre .0 .most) (b .pre .0 .counted) (b .args .c) (b .pre .1), total-is (fieldsOf (b .args .w) (b .args .pool .now)) (b .args .n) (b .args .t .now) (b .pre .0 .most) (b .pre .0 .counted) (b .args .c) (b .pre .1)) (rw (c .before .before .before .total-count .ensures, c .before .before .before .before .middle .ensures .0, c .before .before .before .before .before .low .ensures, c .before .before .before .before .before .before .get-class .ensures) at (c .both .ensures))
 
 pub class-counts-spec : {M : Type 1} → statement M
 class-counts-spec =
@@ -41,7 +44,8 @@ class-counts-spec =
     get-class-requires
     low-requires
     middle-requires
-    chunks-of-requires
+    total-count-requires
+    cast-total
     mul-total
     cast-both
     cast-both-2

@@ -6,8 +6,11 @@ use Rattle.tally.proofs.class_fault.Tie as tie
 unpack-links-requires : tie.Need-unpack-links-requires
 unpack-links-requires c κs = search needs
 
-own-of-requires : tie.Need-own-of-requires
-own-of-requires c κs = search needs
+own-count-requires : tie.Need-own-count-requires
+own-count-requires c κs = search needs
+
+cast-one-if : tie.Need-cast-one-if
+cast-one-if c = search needs
 
 one-if-requires : tie.Need-one-if-requires
 one-if-requires c κs = search needs
@@ -33,7 +36,8 @@ class-fault-spec =
     tie.close
     (tie.spec
     unpack-links-requires
-    own-of-requires
+    own-count-requires
+    cast-one-if
     one-if-requires
     strays-of-requires
     one-if-requires-2

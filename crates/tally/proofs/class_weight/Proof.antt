@@ -1,17 +1,22 @@
-use native.Mathlib.Omega.{arith}
 use Rattle.tally.specs.Tally.{classWeight}
 use borrow.Author.Needs.{needs}
 use Rattle.tally.proofs.class_weight.Statement.{statement}
 use Rattle.tally.proofs.class_weight.Tie as tie
 
-own-of-requires : tie.Need-own-of-requires
-own-of-requires c κs = search needs
+own-count-requires : tie.Need-own-count-requires
+own-count-requires c κs = search needs
+
+chunk-count-requires : tie.Need-chunk-count-requires
+chunk-count-requires c κs = search needs
+
+cast-minus : tie.Need-cast-minus
+cast-minus c = search needs
 
 minus-requires : tie.Need-minus-requires
 minus-requires c κs = search needs
 
-chunks-of-requires : tie.Need-chunks-of-requires
-chunks-of-requires c κs = search needs
+cast-one-if : tie.Need-cast-one-if
+cast-one-if c = search needs
 
 one-if-requires : tie.Need-one-if-requires
 one-if-requires c κs = search needs
@@ -20,10 +25,10 @@ add-result : tie.Need-add-result
 add-result c = search needs
 
 mul-result : tie.Need-mul-result
-mul-result c = omega arith
+mul-result c = search needs
 
 add-result-2 : tie.Need-add-result-2
-add-result-2 c = omega arith
+add-result-2 c = search needs
 
 returns : tie.Need-returns
 unfolding classWeight
@@ -33,9 +38,11 @@ pub class-weight-spec : {M : Type 1} → statement M
 class-weight-spec =
     tie.close
     (tie.spec
-    own-of-requires
+    own-count-requires
+    chunk-count-requires
+    cast-minus
     minus-requires
-    chunks-of-requires
+    cast-one-if
     one-if-requires
     add-result
     mul-result

@@ -6,15 +6,19 @@ use Rattle.tally.proofs.strays_of.Tie as tie
 both-requires : tie.Need-both-requires
 both-requires c κs = search needs
 
-chunks-of-requires : tie.Need-chunks-of-requires
-chunks-of-requires c κs = search needs
+chunk-count-requires : tie.Need-chunk-count-requires
+chunk-count-requires c κs = search needs
+
+cast-both : tie.Need-cast-both
+cast-both c = search needs
 
 both-requires-2 : tie.Need-both-requires-2
 both-requires-2 c κs = search needs
 
 returns : tie.Need-returns
 unfolding strays
-returns c = rw (c .before .chunks-of .ensures, c .before .before .both .ensures) at (c .both2 .ensures)
+returns c = cc
 
 pub strays-of-spec : {M : Type 1} → statement M
-strays-of-spec = tie.close (tie.spec both-requires chunks-of-requires both-requires-2 returns)
+strays-of-spec =
+    tie.close (tie.spec both-requires chunk-count-requires cast-both both-requires-2 returns)

@@ -2,8 +2,8 @@ use mathlib.Core.Path.{refl}
 use Rattle.rules.specs.Bytes.{brokenRule}
 use Rattle.validate.proofs.Answers.{pick-fails, few-pages, after-header}
 use borrow.Author.Needs.{needs}
-use Rattle.validate.proofs.broken.Statement.{statement}
-use Rattle.validate.proofs.broken.Tie as tie
+use Rattle.validate.proofs.broken_rule.Statement.{statement}
+use Rattle.validate.proofs.broken_rule.Tie as tie
 
 page-count-requires : tie.Need-page-count-requires
 page-count-requires c κs = search needs
@@ -21,7 +21,7 @@ broken-page-requires c κs = let b = c .before .before .before .before in (c .be
 returns-2 : tie.Need-returns-2
 returns-2 c = let b = c .before .before .before .before .before in after-header (b .args .w) (b .args .pool .now) _ _ _ (c .before .before .before .page-count .ensures) (c .before .before .header-fits .ensures) (c .before .if1 .left) (c .broken-page .ensures)
 
-pub broken-spec : {M : Type 1} → statement M
-broken-spec =
+pub broken-rule-spec : {M : Type 1} → statement M
+broken-rule-spec =
     tie.close
     (tie.spec page-count-requires header-fits-requires returns broken-page-requires returns-2)
