@@ -5,11 +5,19 @@ ghost use Rattle.model.specs.Classes.{chunks, own, counted};
 ghost use Rattle.popcount.specs.Popcount.{mapBits};
 ghost use Rattle.classes.specs.Classes.{ownWord};
 
-// The chunks that a page of class c is cut into.
+// The chunks that a page of class c is cut into, where the caller knows that c is a class.
+pub fn class_chunks(c: u8) -> u16
+    requires { ⌜ c ≤ 8 ⌝ }
+    ensures { λ r. ⌜ r ≡ chunks c ⌝ }
+{
+    512 >> c
+}
+
+// The same for any c.
 pub fn chunk_count(c: u8) -> u16
     ensures { λ r. ⌜ r ≡ chunks c ⌝ }
 {
-    if c < 9 { 512 >> c } else { 1 }
+    if c < 9 { class_chunks(c) } else { 1 }
 }
 
 fn at_most_3(c: u8) -> u8

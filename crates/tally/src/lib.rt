@@ -41,11 +41,11 @@ pub fn ones_of(pool: &[u8], w: u8, n: usize, p: usize, c: u8) -> usize
 
 // What a page of class c with so many set marks adds to the counter of its class: chunks in use, a page, an open page.
 fn class_weight(c: u8, ones: usize) -> u64
-    requires { ⌜ ones ≤ 512 ⌝ }
+    requires { ⌜ (c ≤ 8) × (ones ≤ 512) ⌝ }
     ensures { λ r. ⌜ r ≡ classWeight c ones ⌝ }
 {
     let own = classes::own_count(c);
-    let chunks = classes::chunk_count(c);
+    let chunks = classes::class_chunks(c);
     let used = tests::minus(ones, own as usize) as u64;
     let open = tests::one_if(ones < chunks as usize);
     used + SECOND + THIRD * open
@@ -53,15 +53,17 @@ fn class_weight(c: u8, ones: usize) -> u64
 
 // Whether the page is full and has links.
 fn strays_of(c: u8, ones: usize, next: u16, prev: u16) -> bool
+    requires { ⌜ c ≤ 8 ⌝ }
     ensures { λ r. ⌜ r ≡ strays c ones next prev ⌝ }
 {
     let alone = tests::both(next == NO_PAGE, prev == NO_PAGE);
-    let chunks = classes::chunk_count(c);
+    let chunks = classes::class_chunks(c);
     tests::both(chunks as usize <= ones, !alone)
 }
 
 // What it adds to the counter of faults: a page not in use, a full page with links.
 fn class_fault(c: u8, ones: usize, v: u64) -> u64
+    requires { ⌜ c ≤ 8 ⌝ }
     ensures { λ r. ⌜ r ≡ classFault c ones (unpackLinks v) ⌝ }
 {
     let l = page_records::unpack_links(v);

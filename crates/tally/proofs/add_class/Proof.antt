@@ -15,13 +15,13 @@ cast-add : tie.Need-cast-add
 cast-add c = search needs
 
 class-weight-requires : tie.Need-class-weight-requires
-class-weight-requires c κs = search needs
+class-weight-requires c κs = let u = c .before .before in (rw (u .unpack-links .ensures) (u .before .before .pre .3), search needs)
 
 add-requires : tie.Need-add-requires
 add-requires c κs = let u = c .before .before .before in let h : u .unpack-links .result .class ≤ 8 = rw (u .unpack-links .ensures) (u .before .before .pre .3) in omega arith
 
 class-fault-requires : tie.Need-class-fault-requires
-class-fault-requires c κs = search needs
+class-fault-requires c κs = let u = c .before .before .before .before .before in rw (u .unpack-links .ensures) (u .before .before .pre .3)
 
 add-requires-2 : tie.Need-add-requires-2
 add-requires-2 c κs = search needs

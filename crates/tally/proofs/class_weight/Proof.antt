@@ -6,8 +6,8 @@ use Rattle.tally.proofs.class_weight.Tie as tie
 own-count-requires : tie.Need-own-count-requires
 own-count-requires c κs = search needs
 
-chunk-count-requires : tie.Need-chunk-count-requires
-chunk-count-requires c κs = search needs
+class-chunks-requires : tie.Need-class-chunks-requires
+class-chunks-requires c κs = search needs
 
 cast-minus : tie.Need-cast-minus
 cast-minus c = search needs
@@ -39,7 +39,7 @@ class-weight-spec =
     tie.close
     (tie.spec
     own-count-requires
-    chunk-count-requires
+    class-chunks-requires
     cast-minus
     minus-requires
     cast-one-if

@@ -6,8 +6,8 @@ use Rattle.tally.proofs.strays_of.Tie as tie
 both-requires : tie.Need-both-requires
 both-requires c κs = search needs
 
-chunk-count-requires : tie.Need-chunk-count-requires
-chunk-count-requires c κs = search needs
+class-chunks-requires : tie.Need-class-chunks-requires
+class-chunks-requires c κs = search needs
 
 cast-both : tie.Need-cast-both
 cast-both c = search needs
@@ -21,4 +21,4 @@ returns c = cc
 
 pub strays-of-spec : {M : Type 1} → statement M
 strays-of-spec =
-    tie.close (tie.spec both-requires chunk-count-requires cast-both both-requires-2 returns)
+    tie.close (tie.spec both-requires class-chunks-requires cast-both both-requires-2 returns)
