@@ -2,7 +2,7 @@
 use mathlib.Core.Path.{_≡_, refl}
 use mathlib.Core.Logic.{_≢_}
 use mathlib.Core.Bool.{false, not}
-use Prim.Native.Nat.{ℕ, zero, suc, _+_, _-_, _*_, _/_, _%_, _^_, _≤_, _<_}
+use Prim.Native.Nat.{ℕ, zero, suc, _+_, _-_, _*_, _/_, _^_, _≤_, _<_}
 use native.Mathlib.Omega.{arith}
 use borrow.Author.Needs.{needs}
 use lib.Pow.{pow-pos, pow-mono}
@@ -38,6 +38,18 @@ chunks-shifted c h = eqb-true _ _ (not-false _ (any-false (λ d. not (eqb (512 /
 pub chunks-past : (c : ℕ) → 9 ≤ c → 1 ≡ chunks c
 unfolding chunks
 chunks-past c h = let z : 9 - c ≡ 0 = omega arith in rw z
+
+pub own-8 : (c : ℕ) → c ≡ 0 → 8 ≡ own c
+unfolding own
+own-8 c e = rw e
+
+pub own-16 : (c : ℕ) → c ≡ 1 → 2 ≡ own c
+unfolding own
+own-16 c e = rw e
+
+pub own-32 : (c : ℕ) → c ≡ 2 → 1 ≡ own c
+unfolding own
+own-32 c e = rw e
 
 pub own-past : (c : ℕ) → 3 ≤ c → 0 ≡ own c
 unfolding own
@@ -90,14 +102,6 @@ raise-more n h = rw (lt-ltb n 4294967295 h) (omega arith)
 pub raise-stops : (n : ℕ) → 4294967295 ≤ n → n ≡ raise n
 unfolding raise most
 raise-stops n h = rw (le-ltb n 4294967295 h)
-
--- the map's own chunks, 16 bits for each class
-pub own-shifted : (c k : ℕ) → (c < 3 → k ≡ c) × (3 ≤ c → k ≡ 3) × (k ≤ 3) → (4295098376 / 2 ^ (16 * k) % 65536 ≡ own c) × (4295098376 / 2 ^ (16 * k) % 65536 ≤ 8)
-unfolding own
-own-shifted zero k h = rw (h .0 (omega arith)) (refl, omega arith)
-own-shifted (suc zero) k h = rw (h .0 (omega arith)) (refl, omega arith)
-own-shifted (suc (suc zero)) k h = rw (h .0 (omega arith)) (refl, omega arith)
-own-shifted (suc (suc (suc c))) k h = rw (h .1 (omega arith)) (refl, omega arith)
 
 pub own-small : (c : ℕ) → own c ≤ 8
 unfolding own

@@ -1,6 +1,6 @@
 // The nine classes: how many chunks their pages are cut into, and how large their maps are.
 ghost use mathlib.Core.Path.{_≡_};
-ghost use Prim.Native.Nat.{_/_, _≤_, _<_};
+ghost use Prim.Native.Nat.{_/_, _≤_};
 ghost use Rattle.model.specs.Classes.{chunks, own, counted};
 ghost use Rattle.popcount.specs.Popcount.{mapBits};
 ghost use Rattle.classes.specs.Classes.{ownWord};
@@ -20,18 +20,16 @@ pub fn chunk_count(c: u8) -> u16
     if c < 9 { class_chunks(c) } else { 1 }
 }
 
-fn at_most_3(c: u8) -> u8
-    ensures { λ r. ⌜ (c < 3 → r ≡ c) × (3 ≤ c → r ≡ 3) × (r ≤ 3) ⌝ }
-{
-    if c < 3 { c } else { 3 }
-}
-
-// The chunks that the map itself takes: 8, 2, 1 and then none, 16 bits for each, so that no branch is made of the class.
+// The chunks that the map itself takes.
 pub fn own_count(c: u8) -> u16
     ensures { λ r. ⌜ (r ≡ own c) × (r ≤ 8) ⌝ }
 {
-    let k = at_most_3(c);
-    ((4295098376u64 >> (16 * k)) % 65536) as u16
+    match c {
+        0 => 8,
+        1 => 2,
+        2 => 1,
+        _ => 0,
+    }
 }
 
 // The top bits of a map's first word that mark them.

@@ -10,7 +10,7 @@ use borrow.Author.Tests.{lt-ltb, ne-eqb}
 use Rattle.base.specs.Tests.{pick, allBelow}
 use Rattle.base.specs.Count.{bit, sum, count}
 use Rattle.base.proofs.Count.{sum-ext}
-use Rattle.model.specs.Classes.{chunks, counted}
+use Rattle.model.specs.Classes.{counted}
 use Rattle.model.specs.State.{isIdle}
 use Rattle.model.specs.View.{kindOf, isClass, usedOn, usedOf, totalIn, shown}
 use Rattle.popcount.proofs.Counts.{count-le}

@@ -1,27 +1,19 @@
-use native.Mathlib.Omega.{arith}
 use borrow.Author.Needs.{needs}
-use Rattle.classes.proofs.Numbers.{own-shifted}
+use Rattle.classes.proofs.Numbers.{own-8, own-16, own-32, own-past}
 use Rattle.classes.proofs.own_count.Statement.{statement}
 use Rattle.classes.proofs.own_count.Tie as tie
 
-at-most-3-requires : tie.Need-at-most-3-requires
-at-most-3-requires c κs = search needs
-
-mul-result : tie.Need-mul-result
-mul-result c = omega (arith, c .at-most-3 .ensures .2)
-
-cast-result : tie.Need-cast-result
-cast-result c = search needs
-
-shr-result : tie.Need-shr-result
-shr-result c = omega (arith, c .at-most-3 .ensures .2)
-
-cast-result-2 : tie.Need-cast-result-2
-cast-result-2 c = search needs
-
 returns : tie.Need-returns
-returns c = own-shifted _ _ (c .at-most-3 .ensures)
+returns c = (own-8 _ (search needs), search needs)
+
+returns-2 : tie.Need-returns-2
+returns-2 c = (own-16 _ (search needs), search needs)
+
+returns-3 : tie.Need-returns-3
+returns-3 c = (own-32 _ (search needs), search needs)
+
+returns-4 : tie.Need-returns-4
+returns-4 c = (own-past _ (search needs), search needs)
 
 pub own-count-spec : {M : Type 1} → statement M
-own-count-spec =
-    tie.close (tie.spec at-most-3-requires mul-result cast-result shr-result cast-result-2 returns)
+own-count-spec = tie.close (tie.spec returns returns-2 returns-3 returns-4)
