@@ -1,26 +1,29 @@
 /*
  * Danumrikal: a slab allocator in a shared slice of bytes, for C99 and C++.
  *
- * A pool is a pointer and a length. `rt staticlib abi` makes the archive with
- * the four functions, target/staticlib/libabi.a; it needs no other library.
+ * A pool is a pointer and a length. `rt staticlib danumrikal` makes the archive
+ * with the four calls, target/staticlib/libdanumrikal.a; it needs no other
+ * library.
  *
  * The calls are proved: whatever the bytes hold and whatever size or offset is
  * passed, each returns, stays inside the given bytes and answers. A refused
  * call changes nothing, but that a chunk refused for room is counted in its
- * class's tallies. No call writes a caller's bytes.
+ * class's tallies. No call writes a block's bytes. An offset at which no live
+ * block begins is never freed: a block freed twice is refused, as long as its
+ * place was not handed out again.
  *
  * What the host program keeps:
  *
  * - pool is not null and names len bytes that stay mapped during the call:
- *   readable for pool_validate, writable too for the others. Any alignment
- *   will do.
- * - One call at a time: the proofs speak of bytes that nobody else writes
- *   during the call, so calls that share a pool need a lock. The library has
+ *   readable for dnk_validate, writable too for the others. Any alignment will
+ *   do; see dnk_place for that of blocks.
+ * - One call at a time, and nobody else writes any of the len bytes meanwhile,
+ *   blocks included: processes that share a pool need a lock. The library has
  *   none.
  * - Between calls only blocks' own bytes are written, and the bytes behind the
  *   last page. Header, records and maps are the calls' alone; where somebody
- *   wrote them nevertheless, pool_alloc and pool_free refuse as long as the
- *   records are unsound (POOL_NOT_SOUND).
+ *   wrote them nevertheless, dnk_alloc and dnk_free refuse as long as the
+ *   records are unsound (DNK_NOT_SOUND).
  * - A block belongs to whoever was answered its offset, until it is freed; its
  *   size is for the host to remember. Offsets hold in every process, wherever
  *   the pool is mapped there; pointers don't.
@@ -35,79 +38,117 @@
 extern "C" {
 #endif
 
+#define DNK_PAGE 4096          /* bytes of a page */
+#define DNK_RECORD 16          /* bytes of a page's record */
+#define DNK_HEAD 152           /* bytes of header and class records, before the page records */
+#define DNK_MOST_PAGES 256     /* pages of the largest pool */
+#define DNK_LARGEST_CHUNK 2048 /* blocks of more bytes are whole pages */
+
+/* The length of a pool of so many pages; a longer one has a tail that no call touches. */
+#define DNK_POOL_LENGTH(pages) (DNK_HEAD + (size_t)(DNK_RECORD + DNK_PAGE) * (pages))
+#define DNK_SHORTEST DNK_POOL_LENGTH(1)                       /* 4,264 */
+#define DNK_LONGEST (DNK_POOL_LENGTH(DNK_MOST_PAGES + 1) - 1) /* 1,056,935 */
+
 /*
  * An answer is one word: the refusal's number in the top 8 bits, 24 zero bits,
  * the value in the low 32. The number is 0 where the call was granted, and the
  * value is 0 where it was refused. So an answer below 2^32 is granted and is
  * the value.
  */
+typedef uint64_t dnk_answer;
+
+/* Why a call was refused; more may come with further calls. */
+enum dnk_refusal {
+    DNK_GRANTED = 0,
+    DNK_TOO_SHORT = 1,
+    DNK_TOO_LONG = 2,
+    DNK_NOT_SOUND = 3,
+    DNK_NO_ROOM = 4,
+    DNK_OUTSIDE = 5,
+    DNK_NOT_TAKEN = 6,
+    DNK_NOT_A_START = 7
+};
 
 /*
  * Makes a pool of the bytes, with all pages free. The value is the page count,
- * 1 to 256. Bytes of pages and behind them stay as they are. Refused by length
- * alone: POOL_TOO_SHORT below 4,264, POOL_TOO_LONG from 1,056,936 on.
+ * 1 to DNK_MOST_PAGES. Bytes of pages and behind them stay as they are. Refused
+ * by length alone:
+ *   DNK_TOO_SHORT    below DNK_SHORTEST: it holds no page
+ *   DNK_TOO_LONG     above DNK_LONGEST: it holds more than DNK_MOST_PAGES
  */
-uint64_t pool_format(uint8_t *pool, size_t len);
+dnk_answer dnk_format(uint8_t *pool, size_t len);
 
 /*
- * Not an answer word: 0 where the records are sound, else the number of the
- * first rule that they break, 1 to 6. Changes nothing.
+ * Not an answer: 0 where the records are sound, else the number of the first
+ * rule that they break. Changes nothing.
+ *   1 header         a pool's length, and the header says so
+ *   2 pages          runs and class pages cover the pages, each recorded as such
+ *   3 free-run list  it holds each free run once, and links lead back
+ *   4 class lists    each holds its class's pages with a free chunk, likewise
+ *   5 in use         each class page has a chunk in use
+ *   6 counts         free pages, used and total are what can be counted
  */
-uint64_t pool_validate(const uint8_t *pool, size_t len);
+uint64_t dnk_validate(const uint8_t *pool, size_t len);
 
 /*
  * Takes a block of at least size bytes; 0 counts as 1. The value is its offset.
- * Up to 2,048 bytes it is a chunk of the smallest power of two from 8 on that
- * holds the size, above that a run of whole pages. Refused with POOL_NOT_SOUND
- * or POOL_NO_ROOM.
+ * Up to DNK_LARGEST_CHUNK it is a chunk of the smallest power of two from 8 on
+ * that holds the size, above that a run of whole pages. Refused by the first of:
+ *   DNK_NOT_SOUND    the records break a rule
+ *   DNK_NO_ROOM      no free chunk and no free page; no run long enough
  */
-uint64_t pool_alloc(uint8_t *pool, size_t len, uint32_t size);
+dnk_answer dnk_alloc(uint8_t *pool, size_t len, uint32_t size);
 
 /*
- * Gives back the block that begins at offset; the value is 0. Refused with
- * POOL_NOT_SOUND, POOL_OUTSIDE, POOL_NOT_TAKEN (a block freed twice) or
- * POOL_NOT_A_START.
+ * Gives back the block that begins at offset; the value is 0. Refused by the
+ * first of:
+ *   DNK_NOT_SOUND    the records break a rule
+ *   DNK_OUTSIDE      the offset lies past the pages
+ *   DNK_NOT_TAKEN    the page is free
+ *   DNK_NOT_A_START  no block can begin there: inside a run, off a chunk's
+ *                    start, in a map
+ *   DNK_NOT_TAKEN    the chunk is free
  */
-uint64_t pool_free(uint8_t *pool, size_t len, uint32_t offset);
-
-/* Why a call was refused; POOL_GRANTED where it was not. */
-enum pool_refusal {
-    POOL_GRANTED = 0,
-    POOL_TOO_SHORT = 1,  /* format: the length holds no page */
-    POOL_TOO_LONG = 2,   /* format: the length holds more than 256 pages */
-    POOL_NOT_SOUND = 3,  /* alloc, free: the records break a rule */
-    POOL_NO_ROOM = 4,    /* alloc: no free chunk and no free page, no run long enough */
-    POOL_OUTSIDE = 5,    /* free: the offset lies past the pages */
-    POOL_NOT_TAKEN = 6,  /* free: the page is free, or the chunk is */
-    POOL_NOT_A_START = 7 /* free: no block can begin at the offset */
-};
+dnk_answer dnk_free(uint8_t *pool, size_t len, uint32_t offset);
 
 /* The refusal of an answer. */
-static inline enum pool_refusal pool_refusal_of(uint64_t answer)
+static inline enum dnk_refusal dnk_refusal_of(dnk_answer answer)
 {
-    return (enum pool_refusal)(answer >> 56);
+    return (enum dnk_refusal)(answer >> 56);
 }
 
 /* The value of an answer. */
-static inline uint32_t pool_value_of(uint64_t answer)
+static inline uint32_t dnk_value_of(dnk_answer answer)
 {
     return (uint32_t)answer;
 }
 
-/* The length of a pool of so many pages; longer ones hold a tail that no call touches. */
-static inline size_t pool_length(size_t pages)
+/* The refusal in words, as "not taken". */
+static inline const char *dnk_refusal_name(enum dnk_refusal refusal)
 {
-    return 152 + 4112 * pages;
+    switch (refusal) {
+    case DNK_GRANTED: return "granted";
+    case DNK_TOO_SHORT: return "too short";
+    case DNK_TOO_LONG: return "too long";
+    case DNK_NOT_SOUND: return "not sound";
+    case DNK_NO_ROOM: return "no room";
+    case DNK_OUTSIDE: return "outside";
+    case DNK_NOT_TAKEN: return "not taken";
+    case DNK_NOT_A_START: return "not a start";
+    }
+    return "unknown";
 }
 
 /*
- * Where the byte at an offset lies in a pool of a length that pool_format
- * accepts: offsets count from the first page, which lies behind the records, at
- * byte 152 + 16 * pages.
+ * Where the byte at an offset lies in a pool of a length that dnk_format
+ * accepts. Offsets count from the first page, which lies behind the records, at
+ * byte 152 + 16 * pages; blocks begin at offsets that are multiples of 8. So a
+ * block's address is a multiple of 8 where the pool's is, and in general of no
+ * more.
  */
-static inline size_t pool_place(size_t len, uint32_t offset)
+static inline size_t dnk_place(size_t len, uint32_t offset)
 {
-    return 152 + 16 * ((len - 152) / 4112) + offset;
+    return DNK_HEAD + DNK_RECORD * ((len - DNK_HEAD) / (DNK_RECORD + DNK_PAGE)) + offset;
 }
 
 #ifdef __cplusplus

@@ -1,17 +1,17 @@
-//! Links the static library of the proved crate `abi`.
+//! Links the static library of the proved crate `danumrikal`.
 
 use std::path::Path;
 
 fn main() {
     let root = Path::new(env!("CARGO_MANIFEST_DIR")).join("../..");
     let folder = root.join("target/staticlib");
-    let archive = folder.join("libabi.a");
+    let archive = folder.join("libdanumrikal.a");
     println!("cargo:rerun-if-changed={}", archive.display());
     assert!(
         archive.exists(),
-        "{} is missing: run `rt staticlib abi` in the repository's root",
+        "{} is missing: run `rt staticlib danumrikal` in the repository's root",
         archive.display()
     );
     println!("cargo:rustc-link-search=native={}", folder.display());
-    println!("cargo:rustc-link-lib=static=abi");
+    println!("cargo:rustc-link-lib=static=danumrikal");
 }

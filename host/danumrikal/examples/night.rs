@@ -2,7 +2,7 @@
 //! share one pool. In the repository's root:
 //!
 //! ```text
-//! rt staticlib abi
+//! rt staticlib danumrikal
 //! cargo run --offline --manifest-path host/Cargo.toml -p danumrikal --example night
 //! ```
 

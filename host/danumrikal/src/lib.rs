@@ -2,7 +2,7 @@
 //!
 //! A pool is a lent slice of bytes. Every call takes the slice, whatever it
 //! holds, and answers: nothing has to be checked first. The work is done by the
-//! static library that `rt staticlib abi` builds of the proved crates; this
+//! static library that `rt staticlib danumrikal` builds of the proved crates; this
 //! crate only declares its functions and takes their answers apart.
 //!
 //! ```
@@ -27,7 +27,7 @@
 
 #![deny(missing_docs)]
 
-mod abi;
+mod ffi;
 mod refusal;
 
 pub use refusal::Refusal;
@@ -70,7 +70,7 @@ pub const fn length(pages: usize) -> usize {
 /// assert_eq!(danumrikal::format(&mut vec![0; 1_056_936]), Err(Refusal::TooLong));
 /// ```
 pub fn format(pool: &mut [u8]) -> Result<u32, Refusal> {
-    answer(abi::format(pool))
+    answer(ffi::format(pool))
 }
 
 /// The number of the first rule that the records break, 1 to 6; 0 where they
@@ -86,7 +86,7 @@ pub fn format(pool: &mut [u8]) -> Result<u32, Refusal> {
 /// # Ok::<(), danumrikal::Refusal>(())
 /// ```
 pub fn broken_rule(pool: &[u8]) -> u8 {
-    abi::validate(pool) as u8
+    ffi::validate(pool) as u8
 }
 
 /// Whether the records are sound. [`alloc`] and [`free`] see to that themselves.
@@ -120,7 +120,7 @@ pub fn validate(pool: &[u8]) -> bool {
 /// # Ok::<(), Refusal>(())
 /// ```
 pub fn alloc(pool: &mut [u8], size: u32) -> Result<u32, Refusal> {
-    answer(abi::alloc(pool, size))
+    answer(ffi::alloc(pool, size))
 }
 
 /// Gives back the block that begins at `offset`. A refused call changes nothing.
@@ -138,7 +138,7 @@ pub fn alloc(pool: &mut [u8], size: u32) -> Result<u32, Refusal> {
 /// # Ok::<(), Refusal>(())
 /// ```
 pub fn free(pool: &mut [u8], offset: u32) -> Result<(), Refusal> {
-    answer(abi::free(pool, offset)).map(|_| ())
+    answer(ffi::free(pool, offset)).map(|_| ())
 }
 
 /// Where `size` bytes from `offset` on lie in the pool's slice: a block's bytes,

@@ -3,6 +3,7 @@
 
 #include <stdio.h>
 #include <stdlib.h>
+#include <string.h>
 
 #define EXPECT(holds) \
     do { \
@@ -12,50 +13,72 @@
         } \
     } while (0)
 
-static uint64_t refused(enum pool_refusal refusal)
+static uint8_t pool[DNK_LONGEST + 1];
+
+static dnk_answer refused(enum dnk_refusal refusal)
 {
-    return (uint64_t)refusal << 56;
+    return (dnk_answer)refusal << 56;
+}
+
+static int has_name(int number, const char *name)
+{
+    return strcmp(dnk_refusal_name((enum dnk_refusal)number), name) == 0;
 }
 
 int main(void)
 {
     int failed = 0;
-    size_t most = 1056935;
-    uint8_t *pool = calloc(most + 1, 1);
-    if (pool == NULL) {
-        return EXIT_FAILURE;
-    }
+    const size_t len = DNK_SHORTEST;
 
-    EXPECT(pool_length(1) == 4264);
-    EXPECT(pool_length(12) == 49496);
-    EXPECT(pool_length(257) == most + 1);
-    EXPECT(pool_place(4264, 0) == 168);
-    EXPECT(pool_place(8375, 4095) == 168 + 4095);
-    EXPECT(pool_place(49496, 49151) == 49495);
+    EXPECT(DNK_SHORTEST == 4264);
+    EXPECT(DNK_LONGEST == 1056935);
+    EXPECT(DNK_POOL_LENGTH(12) == 49496);
+    EXPECT(DNK_POOL_LENGTH(6 + 6) == 49496);
+    EXPECT(dnk_place(len, 0) == 168);
+    EXPECT(dnk_place(DNK_POOL_LENGTH(2) - 1, DNK_PAGE - 1) == 168 + DNK_PAGE - 1);
+    EXPECT(dnk_place(DNK_POOL_LENGTH(12), 12 * DNK_PAGE - 1) == DNK_POOL_LENGTH(12) - 1);
 
-    EXPECT(pool_format(pool, 4263) == refused(POOL_TOO_SHORT));
-    EXPECT(pool_format(pool, most + 1) == refused(POOL_TOO_LONG));
-    EXPECT(pool_format(pool, most) == 256);
-    EXPECT(pool_format(pool, 4264) == 1);
-    EXPECT(pool_validate(pool, 4264) == 0);
+    EXPECT(has_name(0, "granted"));
+    EXPECT(has_name(1, "too short"));
+    EXPECT(has_name(2, "too long"));
+    EXPECT(has_name(3, "not sound"));
+    EXPECT(has_name(4, "no room"));
+    EXPECT(has_name(5, "outside"));
+    EXPECT(has_name(6, "not taken"));
+    EXPECT(has_name(7, "not a start"));
 
-    uint64_t answer = pool_alloc(pool, 4264, 2000);
-    EXPECT(pool_refusal_of(answer) == POOL_GRANTED && pool_value_of(answer) == 0);
-    answer = pool_alloc(pool, 4264, 2048);
-    EXPECT(pool_refusal_of(answer) == POOL_GRANTED && pool_value_of(answer) == 2048);
-    answer = pool_alloc(pool, 4264, 1);
-    EXPECT(answer == refused(POOL_NO_ROOM));
-    EXPECT(pool_refusal_of(answer) == POOL_NO_ROOM && pool_value_of(answer) == 0);
-    EXPECT(pool_free(pool, 4264, 4096) == refused(POOL_OUTSIDE));
-    EXPECT(pool_free(pool, 4264, 1) == refused(POOL_NOT_A_START));
-    EXPECT(pool_free(pool, 4264, 0) == 0);
-    EXPECT(pool_free(pool, 4264, 0) == refused(POOL_NOT_TAKEN));
+    EXPECT(dnk_format(pool, DNK_SHORTEST - 1) == refused(DNK_TOO_SHORT));
+    EXPECT(dnk_format(pool, DNK_LONGEST + 1) == refused(DNK_TOO_LONG));
+    EXPECT(dnk_format(pool, DNK_LONGEST) == DNK_MOST_PAGES);
+    EXPECT(dnk_format(pool, len) == 1);
+    EXPECT(dnk_validate(pool, len) == 0);
+
+    dnk_answer answer = dnk_alloc(pool, len, 2000);
+    EXPECT(dnk_refusal_of(answer) == DNK_GRANTED && dnk_value_of(answer) == 0);
+    answer = dnk_alloc(pool, len, DNK_LARGEST_CHUNK);
+    EXPECT(dnk_refusal_of(answer) == DNK_GRANTED && dnk_value_of(answer) == 2048);
+    answer = dnk_alloc(pool, len, 1);
+    EXPECT(answer == refused(DNK_NO_ROOM));
+    EXPECT(dnk_refusal_of(answer) == DNK_NO_ROOM && dnk_value_of(answer) == 0);
+    EXPECT(dnk_free(pool, len, DNK_PAGE) == refused(DNK_OUTSIDE));
+    EXPECT(dnk_free(pool, len, 1) == refused(DNK_NOT_A_START));
+    EXPECT(dnk_free(pool, len, 0) == 0);
+    EXPECT(dnk_free(pool, len, 0) == refused(DNK_NOT_TAKEN));
 
     pool[0] = 2; /* the edition */
-    EXPECT(pool_validate(pool, 4264) == 1);
-    EXPECT(pool_free(pool, 4264, 2048) == refused(POOL_NOT_SOUND));
-    EXPECT(pool_alloc(pool, 4264, 1) == refused(POOL_NOT_SOUND));
+    EXPECT(dnk_validate(pool, len) == 1);
+    EXPECT(dnk_free(pool, len, 2048) == refused(DNK_NOT_SOUND));
+    EXPECT(dnk_alloc(pool, len, 1) == refused(DNK_NOT_SOUND));
 
-    free(pool);
+    /* Blocks of every class and of whole pages, at multiples of 8 from the pool's first byte. */
+    for (size_t pages = 1; pages <= DNK_MOST_PAGES; pages++) {
+        const size_t whole = DNK_POOL_LENGTH(pages);
+        for (uint32_t size = 8; size <= DNK_PAGE; size *= 2) {
+            EXPECT(dnk_format(pool, whole) == pages);
+            answer = dnk_alloc(pool, whole, size);
+            EXPECT(dnk_refusal_of(answer) == DNK_GRANTED);
+            EXPECT(dnk_place(whole, dnk_value_of(answer)) % 8 == 0);
+        }
+    }
     return failed ? EXIT_FAILURE : EXIT_SUCCESS;
 }

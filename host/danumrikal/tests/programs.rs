@@ -32,7 +32,7 @@ fn run_c(source: &str) -> String {
         .args(["-std=c99", "-Wall", "-Wextra", "-Werror", "-pedantic", "-I"])
         .arg(root().join("include"))
         .arg(source)
-        .arg(root().join("target/staticlib/libabi.a"))
+        .arg(root().join("target/staticlib/libdanumrikal.a"))
         .arg("-o")
         .arg(&program));
     run(&mut Command::new(program))

@@ -1,8 +1,8 @@
 use mathlib.Core.Path.{_∙_, ap}
 use Rattle.answer_words.specs.Word.{wordOf}
 use borrow.Author.Needs.{needs}
-use Rattle.abi.proofs.pool_free.Statement.{statement}
-use Rattle.abi.proofs.pool_free.Tie as tie
+use Rattle.danumrikal.proofs.dnk_free.Statement.{statement}
+use Rattle.danumrikal.proofs.dnk_free.Tie as tie
 
 free-requires : tie.Need-free-requires
 free-requires c κs = search needs
@@ -16,5 +16,5 @@ same-length c = search needs
 returns : tie.Need-returns
 returns c = (c .freed-word .ensures ∙ ap wordOf (c .before .before .before .free .ensures .0), c .before .before .before .free .ensures .1)
 
-pub pool-free-spec : {M : Type 1} → statement M
-pool-free-spec = tie.close (tie.spec free-requires freed-word-requires same-length returns)
+pub dnk-free-spec : {M : Type 1} → statement M
+dnk-free-spec = tie.close (tie.spec free-requires freed-word-requires same-length returns)

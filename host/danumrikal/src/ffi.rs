@@ -2,28 +2,28 @@
 //! that make a slice, which is what the safe functions here pass.
 
 extern "C" {
-    fn pool_format(pool: *mut u8, len: usize) -> u64;
-    fn pool_validate(pool: *const u8, len: usize) -> u64;
-    fn pool_alloc(pool: *mut u8, len: usize, size: u32) -> u64;
-    fn pool_free(pool: *mut u8, len: usize, offset: u32) -> u64;
+    fn dnk_format(pool: *mut u8, len: usize) -> u64;
+    fn dnk_validate(pool: *const u8, len: usize) -> u64;
+    fn dnk_alloc(pool: *mut u8, len: usize, size: u32) -> u64;
+    fn dnk_free(pool: *mut u8, len: usize, offset: u32) -> u64;
 }
 
 pub fn format(pool: &mut [u8]) -> u64 {
     // SAFETY: pointer and length are those of a slice that is lent for the call.
-    unsafe { pool_format(pool.as_mut_ptr(), pool.len()) }
+    unsafe { dnk_format(pool.as_mut_ptr(), pool.len()) }
 }
 
 pub fn validate(pool: &[u8]) -> u64 {
     // SAFETY: pointer and length are those of a slice that is lent for the call.
-    unsafe { pool_validate(pool.as_ptr(), pool.len()) }
+    unsafe { dnk_validate(pool.as_ptr(), pool.len()) }
 }
 
 pub fn alloc(pool: &mut [u8], size: u32) -> u64 {
     // SAFETY: pointer and length are those of a slice that is lent for the call.
-    unsafe { pool_alloc(pool.as_mut_ptr(), pool.len(), size) }
+    unsafe { dnk_alloc(pool.as_mut_ptr(), pool.len(), size) }
 }
 
 pub fn free(pool: &mut [u8], offset: u32) -> u64 {
     // SAFETY: pointer and length are those of a slice that is lent for the call.
-    unsafe { pool_free(pool.as_mut_ptr(), pool.len(), offset) }
+    unsafe { dnk_free(pool.as_mut_ptr(), pool.len(), offset) }
 }

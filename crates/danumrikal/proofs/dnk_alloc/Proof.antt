@@ -1,8 +1,8 @@
 use mathlib.Core.Path.{_∙_, ap}
 use Rattle.answer_words.specs.Word.{wordOf}
 use borrow.Author.Needs.{needs}
-use Rattle.abi.proofs.pool_alloc.Statement.{statement}
-use Rattle.abi.proofs.pool_alloc.Tie as tie
+use Rattle.danumrikal.proofs.dnk_alloc.Statement.{statement}
+use Rattle.danumrikal.proofs.dnk_alloc.Tie as tie
 
 alloc-requires : tie.Need-alloc-requires
 alloc-requires c κs = search needs
@@ -16,5 +16,5 @@ same-length c = search needs
 returns : tie.Need-returns
 returns c = (c .allocated-word .ensures ∙ ap wordOf (c .before .before .before .alloc .ensures .0), c .before .before .before .alloc .ensures .1)
 
-pub pool-alloc-spec : {M : Type 1} → statement M
-pool-alloc-spec = tie.close (tie.spec alloc-requires allocated-word-requires same-length returns)
+pub dnk-alloc-spec : {M : Type 1} → statement M
+dnk-alloc-spec = tie.close (tie.spec alloc-requires allocated-word-requires same-length returns)

@@ -1,8 +1,8 @@
 use mathlib.Core.Path.{_∙_, ap}
 use Rattle.answer_words.specs.Word.{wordOf}
 use borrow.Author.Needs.{needs}
-use Rattle.abi.proofs.pool_format.Statement.{statement}
-use Rattle.abi.proofs.pool_format.Tie as tie
+use Rattle.danumrikal.proofs.dnk_format.Statement.{statement}
+use Rattle.danumrikal.proofs.dnk_format.Tie as tie
 
 format-requires : tie.Need-format-requires
 format-requires c κs = search needs
@@ -16,5 +16,5 @@ same-length c = search needs
 returns : tie.Need-returns
 returns c = (c .formatted-word .ensures ∙ ap wordOf (c .before .before .before .format .ensures .0), c .before .before .before .format .ensures .1)
 
-pub pool-format-spec : {M : Type 1} → statement M
-pool-format-spec = tie.close (tie.spec format-requires formatted-word-requires same-length returns)
+pub dnk-format-spec : {M : Type 1} → statement M
+dnk-format-spec = tie.close (tie.spec format-requires formatted-word-requires same-length returns)
