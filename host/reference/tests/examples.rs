@@ -10,8 +10,10 @@ use reference::{alloc, format, free, run_script, shown, validate, Class, Refusal
 #[allow(dead_code)] // These tests read only a few of the fields.
 mod bits;
 
-use bits::{get, page_byte};
-use support::length;
+use bits::get;
+use support::{
+    class_record_at, length, page_at, page_record_at, HEAD, LONGEST, PER_PAGE, RECORD, SHORTEST,
+};
 
 /// A formatted pool over bytes that were not zero.
 fn pool(pages: usize) -> Vec<u8> {
@@ -72,7 +74,7 @@ fn format_lengths() {
     assert_eq!(format(&mut vec![7; 4_264]), Ok(1));
     assert_eq!(format(&mut vec![7; 1_056_935]), Ok(256));
     refused(&mut vec![7; 1_056_936], Refusal::TooLong, format);
-    for bytes in [0, 1, 8, 151, 152, 153] {
+    for bytes in [0, 1, 8, HEAD - 1, HEAD, HEAD + 1] {
         refused(&mut vec![7; bytes], Refusal::TooShort, format);
     }
     refused(&mut vec![7; 2_000_000], Refusal::TooLong, format);
@@ -81,7 +83,7 @@ fn format_lengths() {
 #[test]
 fn format_writes_records_alone() {
     for pages in [1, 2, 3, 256] {
-        let tail = if pages == 1 { 4_111 } else { 17 };
+        let tail = if pages == 1 { PER_PAGE - 1 } else { 17 };
         let mut bytes = vec![0xA5; length(pages) + tail];
         assert_eq!(format(&mut bytes), Ok(pages as u32));
 
@@ -89,8 +91,8 @@ fn format_writes_records_alone() {
         let header = 0x013C << 48 | (pages as u64) << 32 | (pages as u64) << 16;
         expected[..8].copy_from_slice(&header.to_be_bytes());
         for class in 0..9 {
-            let at = 8 + 16 * class;
-            expected[at..at + 16].fill(0);
+            let at = class_record_at(class);
+            expected[at..at + RECORD].fill(0);
             expected[at..at + 2].fill(0xFF);
         }
         for page in 0..pages {
@@ -98,8 +100,8 @@ fn format_writes_records_alone() {
             let last = page > 0 && page == pages - 1;
             let previous = if last { 0 } else { 65_535 };
             let record = kind << 61 | (run as u128) << 41 | 65_535 << 25 | previous << 9;
-            let at = 152 + 16 * page;
-            expected[at..at + 16].copy_from_slice(&record.to_be_bytes());
+            let at = page_record_at(page);
+            expected[at..at + RECORD].copy_from_slice(&record.to_be_bytes());
         }
         assert!(bytes == expected, "{pages} pages");
         assert!(validate(&bytes));
@@ -246,7 +248,7 @@ fn the_pools_end() {
     free_refused(&mut bytes, 49_152, Refusal::Outside);
     free_refused(&mut bytes, u32::MAX, Refusal::Outside);
     // A tail long enough to look like more pages changes nothing of that.
-    let mut bytes = vec![0xA5; length(12) + 4_111];
+    let mut bytes = vec![0xA5; length(12) + PER_PAGE - 1];
     format(&mut bytes).unwrap();
     free_refused(&mut bytes, 49_152, Refusal::Outside);
 }
@@ -262,7 +264,7 @@ fn soundness_is_judged_first() {
     for offset in [0, 4_096, 8_192, 49_152, u32::MAX] {
         free_refused(&mut bytes, offset, Refusal::NotSound);
     }
-    for length in [0, 8, 4_263, 1_056_936] {
+    for length in [0, 8, SHORTEST - 1, LONGEST + 1] {
         let mut bytes = vec![0; length];
         refused(&mut bytes, Refusal::NotSound, |bytes| alloc(bytes, 1));
         free_refused(&mut bytes, u32::MAX, Refusal::NotSound);
@@ -408,7 +410,7 @@ fn inside_pages_only_marks_change() {
         let size = 8 << class;
         let map_bytes = [64, 32, 16, 0, 0, 0, 0, 0, 0][class];
         let mut bytes = pool(2);
-        let page = page_byte(2, 0);
+        let page = page_at(2, 0);
         let offset = alloc(&mut bytes, size).unwrap();
         assert!(bytes[page + map_bytes..].iter().all(|byte| *byte == 0xA5));
         free(&mut bytes, offset).unwrap();

@@ -11,7 +11,7 @@ use reference::{
 mod plain;
 
 use plain::Plain;
-use support::{callers_bytes, length, Habit, Rng};
+use support::{callers_bytes, length, page_at, Habit, Rng, PAGE, PER_PAGE};
 
 /// Where code runs slowly, fewer calls have to do.
 const SLOWNESS: u32 = if cfg!(debug_assertions) { 10 } else { 1 };
@@ -35,7 +35,7 @@ struct Trial {
 impl Trial {
     fn new(seed: u64, pages: usize) -> Trial {
         let mut rng = Rng::new(seed);
-        let tail = rng.below(4_112) as usize;
+        let tail = rng.below(PER_PAGE as u64) as usize;
         let mut pool = rng.bytes(length(pages) + tail);
         assert_eq!(format(&mut pool), Ok(pages as u32));
         let live = LiveSet::new(pages as u32);
@@ -51,12 +51,8 @@ impl Trial {
             granted: [0; 2],
             refused: [0; 10],
         };
-        assert!(trial.pool[..trial.pages_at()] == trial.plain.records());
+        assert!(trial.pool[..page_at(pages, 0)] == trial.plain.records());
         trial
-    }
-
-    fn pages_at(&self) -> usize {
-        152 + 16 * self.pages
     }
 
     /// Changes bytes that a caller may change between calls.
@@ -74,7 +70,7 @@ impl Trial {
 
     fn live_offset(&mut self) -> Option<u32> {
         // The nearest block to a random place, found without counting.
-        let place = self.rng.below(self.pages as u64 * 4_096) as u32;
+        let place = self.rng.below((self.pages * PAGE) as u64) as u32;
         let blocks = self.live.blocks();
         let nearest = blocks.range(place..).next().or(blocks.iter().next());
         nearest.map(|(offset, _)| *offset)
@@ -128,9 +124,8 @@ impl Trial {
                     // The mark is cleared even in a page that is then released.
                     if let Some(Block::Chunk(class)) = block {
                         if MAP_BYTES[class.index()] > 0 {
-                            let chunk = (offset % 4_096 / class.chunk_size()) as usize;
-                            let page = offset as usize / 4_096;
-                            let map = 152 + 16 * self.pages + 4_096 * page;
+                            let chunk = offset as usize % PAGE / class.chunk_size() as usize;
+                            let map = page_at(self.pages, offset as usize / PAGE);
                             expected_pool[map + chunk / 8] &= !(0x80 >> (chunk % 8));
                         }
                     }
@@ -144,9 +139,9 @@ impl Trial {
             None => self.granted[usize::from(matches!(call, Call::Free(_)))] += 1,
         }
 
-        expected_pool[..152 + 16 * self.pages].copy_from_slice(&self.plain.records());
+        expected_pool[..page_at(self.pages, 0)].copy_from_slice(&self.plain.records());
         for (page, map) in self.plain.maps_in_pages() {
-            let at = 152 + 16 * self.pages + 4_096 * page;
+            let at = page_at(self.pages, page);
             expected_pool[at..at + map.len()].copy_from_slice(&map);
         }
         assert!(self.pool == expected_pool, "{call:?}");

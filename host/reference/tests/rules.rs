@@ -10,10 +10,10 @@ mod bits;
 mod literal;
 
 use bits::{
-    class_record, page_byte, page_record, set, CLASS, CLASS_FIRST, EDITION, FAILS, FIRST, FREE,
-    KIND, MAP, MIN_SHIFT, NEXT, PAGES, PAGE_SHIFT, PREVIOUS, REQS, RUN, TOTAL, USED, ZEROS,
+    class_record, page_record, set, CLASS, CLASS_FIRST, EDITION, FAILS, FIRST, FREE, KIND, MAP,
+    MIN_SHIFT, NEXT, PAGES, PAGE_SHIFT, PREVIOUS, REQS, RUN, TOTAL, USED, ZEROS,
 };
-use support::Rng;
+use support::{length, page_at, Rng, HEAD, LONGEST, PER_PAGE, SHORTEST};
 
 const NONE: u64 = 65_535;
 
@@ -58,7 +58,7 @@ const PAGE_FIELDS: [(usize, usize); 7] = [
 /// - 7: a free run of one; 8: a taken run of one; 9 to 15: a free run. The
 ///   free-run list is 7, then 9.
 fn fixture() -> Vec<u8> {
-    let mut bytes = vec![0xA5; 152 + 4_112 * 16 + 9];
+    let mut bytes = vec![0xA5; length(16) + 9];
     assert_eq!(format(&mut bytes), Ok(16));
     for size in [
         8, 64, 5_000, 2_048, 2_048, 1_024, 1_024, 1_024, 1_024, 1_024,
@@ -104,20 +104,22 @@ fn breaks(rule: u8, record: usize, above: usize, width: usize, numbers: &[u64]) 
 
 #[test]
 fn lengths() {
-    for length in [0, 1, 7, 8, 151, 152, 4_263, 1_056_936, 1_100_000] {
+    let ends = [HEAD - 1, HEAD, SHORTEST - 1, LONGEST + 1];
+    for length in [0, 1, 7, 8, 1_100_000].into_iter().chain(ends) {
         assert_breaks(&mut vec![0; length], 1, &format!("{length} zeros"));
         assert_breaks(&mut vec![0xFF; length], 1, &format!("{length} ones"));
     }
     // A tail of up to a page record and a page changes nothing; less than the
     // last page, or room for one more, does.
-    for (pages, tail) in [(1, 0), (1, 4_111), (2, 1), (16, 4_111), (256, 4_111)] {
-        let mut bytes = vec![3; 152 + 4_112 * pages + tail];
+    let longest = PER_PAGE - 1;
+    for (pages, tail) in [(1, 0), (1, longest), (2, 1), (16, longest), (256, longest)] {
+        let mut bytes = vec![3; length(pages) + tail];
         format(&mut bytes).unwrap();
         assert_breaks(&mut bytes, 0, "fresh");
         let whole = bytes.len() - tail;
         assert_breaks(&mut bytes[..whole], 0, "without its tail");
         assert_breaks(&mut bytes[..whole - 1], 1, "cut short");
-        bytes.resize(whole + 4_112, 3);
+        bytes.resize(whole + PER_PAGE, 3);
         assert_breaks(&mut bytes, 1, "one page longer");
     }
 }
@@ -126,7 +128,7 @@ fn lengths() {
 fn bytes_that_are_no_pool() {
     let mut rng = Rng::new(1);
     for pages in [1, 2, 12, 256] {
-        let length = 152 + 4_112 * pages;
+        let length = length(pages);
         assert_breaks(&mut vec![0; length], 1, "zeros");
         assert_breaks(&mut vec![0xFF; length], 1, "ones");
         let mut bytes = vec![0; length];
@@ -319,7 +321,7 @@ fn class_lists() {
     breaks(4, page_record(5), MAP, 64, &[0b1111 << 60]);
 
     // A full page alone on its list, in the place of an open one.
-    let mut bytes = vec![0; 152 + 4_112 * 2];
+    let mut bytes = vec![0; length(2)];
     format(&mut bytes).unwrap();
     for _ in 0..3 {
         alloc(&mut bytes, 2_048).unwrap();
@@ -344,10 +346,10 @@ fn maps() {
     breaks(2, page_record(5), MAP, 64, &[0b1011 << 60 | 1 << 59]);
     // The map's own marks, every one of them.
     for (class, own) in [(0, 8), (1, 2), (2, 1)] {
-        let mut sound = vec![0; 152 + 4_112];
+        let mut sound = vec![0; length(1)];
         format(&mut sound).unwrap();
         alloc(&mut sound, 8 << class).unwrap();
-        let map = page_byte(1, 0) * 8;
+        let map = page_at(1, 0) * 8;
         for chunk in 0..own {
             let mut bytes = sound.clone();
             set(&mut bytes, map + chunk, 1, 0);
@@ -363,11 +365,11 @@ fn maps() {
         }
         let mut bytes = sound.clone();
         let bytes_of_map = 64 >> class;
-        bytes[page_byte(1, 0)..][..bytes_of_map].fill(0xFF);
+        bytes[page_at(1, 0)..][..bytes_of_map].fill(0xFF);
         assert_breaks(&mut bytes, 4, "a full page on a list");
         // The byte after the map is a caller's.
         let mut bytes = sound.clone();
-        bytes[page_byte(1, 0) + bytes_of_map] = 0xFF;
+        bytes[page_at(1, 0) + bytes_of_map] = 0xFF;
         assert_breaks(&mut bytes, 0, "a caller's byte");
     }
     // An empty class page breaks 5 even when the counts agree with it.
@@ -385,14 +387,14 @@ fn maps() {
 #[test]
 fn forged_records_past_the_last_page() {
     let sound = || {
-        let mut bytes = vec![0; 152 + 4_112 * 3];
+        let mut bytes = vec![0; length(3)];
         format(&mut bytes).unwrap();
         assert_eq!(alloc(&mut bytes, 4_096), Ok(0));
         bytes
     };
     let forge = |bytes: &mut [u8], kind, class, run, previous| {
         let at = page_record(3);
-        assert_eq!(at, page_byte(3, 0) * 8);
+        assert_eq!(at, page_at(3, 0) * 8);
         set(bytes, at + MAP, 64, if kind == 2 { 1 << 63 } else { 0 });
         set(bytes, at + KIND, 3, kind);
         set(bytes, at + CLASS, 4, class);
@@ -476,7 +478,7 @@ fn every_field_with_every_telling_number() {
 /// A sound pool of a few pages after some random calls.
 fn random_pool(rng: &mut Rng) -> Vec<u8> {
     let pages = 1 + rng.below(9);
-    let mut bytes = vec![0; 152 + 4_112 * pages as usize];
+    let mut bytes = vec![0; length(pages as usize)];
     format(&mut bytes).unwrap();
     let mut live = Vec::new();
     for _ in 0..rng.below(40) {
@@ -493,13 +495,13 @@ fn random_pool(rng: &mut Rng) -> Vec<u8> {
 
 /// Changes one field of a record, one mark inside a page, or links two pages.
 fn damage(rng: &mut Rng, bytes: &mut [u8]) {
-    let pages = (bytes.len() - 152) / 4_112;
+    let pages = (bytes.len() - HEAD) / PER_PAGE;
     let page = rng.below(pages as u64) as usize;
     let (record, fields) = match rng.below(12) {
         0 => (0, &HEADER_FIELDS[..]),
         1 | 2 => (class_record(rng.below(9) as usize), &CLASS_FIELDS[..]),
         3 => {
-            let mark = page_byte(pages, page) * 8 + rng.below(512) as usize;
+            let mark = page_at(pages, page) * 8 + rng.below(512) as usize;
             return set(bytes, mark, 1, rng.below(2));
         }
         4 => {
@@ -539,7 +541,7 @@ fn random_damage() {
         broken[rule as usize] += 1;
         // Without validation the calls must end, whatever they find.
         for _ in 0..4 {
-            let pages = (bytes.len() as u64 - 152) / 4_112;
+            let pages = ((bytes.len() - HEAD) / PER_PAGE) as u64;
             let _ = alloc_sound(&mut bytes, rng.below(9_000) as u32);
             let _ = free_sound(&mut bytes, rng.below(pages * 512 + 2) as u32 * 8);
         }
@@ -555,7 +557,7 @@ fn unvalidated_calls_end_on_random_records() {
     let mut rng = Rng::new(3);
     for trial in 0..TRIALS / 10 {
         let pages = 1 + rng.below(12);
-        let mut bytes = vec![0; 152 + 4_112 * pages as usize];
+        let mut bytes = vec![0; length(pages as usize)];
         rng.fill(&mut bytes);
         if trial % 2 == 0 {
             // Near numbers make links that lead somewhere.
@@ -584,7 +586,7 @@ fn unvalidated_calls_end_on_random_records() {
             let _ = free_sound(&mut bytes, rng.word() as u32);
         }
     }
-    for length in [0, 1, 8, 4_263, 1_056_936] {
+    for length in [0, 1, 8, SHORTEST - 1, LONGEST + 1] {
         let mut bytes = vec![0xFF; length];
         assert_eq!(alloc_sound(&mut bytes, 8), Err(Refusal::NotSound));
         assert_eq!(free_sound(&mut bytes, 0), Err(Refusal::NotSound));

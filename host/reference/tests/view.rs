@@ -6,7 +6,7 @@ use reference::{
     Refusal,
 };
 
-use support::Rng;
+use support::{length, Rng, SHORTEST};
 
 fn chunk(number: u32) -> Block {
     Block::Chunk(Class::new(number).unwrap())
@@ -111,7 +111,7 @@ fn the_expected_view() {
 
 #[test]
 fn a_pool_is_read_by_itself() {
-    let mut pool = vec![0xFF; 152 + 4_112 * 12];
+    let mut pool = vec![0xFF; length(12)];
     format(&mut pool).unwrap();
     let mut live = LiveSet::new(12);
     for size in [8, 9, 17, 33, 2_048, 2_048, 2_049, 9_000, 8] {
@@ -124,7 +124,7 @@ fn a_pool_is_read_by_itself() {
     let wrong = shown(&pool).unwrap();
     assert_ne!(wrong, live.expected());
     assert_eq!(live_blocks(&pool), None);
-    assert_eq!(shown(&pool[..4_263]), None);
+    assert_eq!(shown(&pool[..SHORTEST - 1]), None);
 }
 
 /// Rules on every size and every offset, and holds each ruling against what a
@@ -135,7 +135,7 @@ fn every_next_call() {
     let mut rng = Rng::new(4);
     for _ in 0..states {
         let pages = 1 + rng.below(4) as u32;
-        let mut pool = vec![0; 152 + 4_112 * pages as usize];
+        let mut pool = vec![0; length(pages as usize)];
         format(&mut pool).unwrap();
         let mut live = LiveSet::new(pages);
         let shift = 3 + rng.below(10);

@@ -1,4 +1,4 @@
-use crate::Rng;
+use crate::{Rng, PAGE};
 
 /// What the calls of a game tend to, so that pools fill, empty and break into
 /// pieces instead of staying in one middle state.
@@ -28,11 +28,11 @@ impl Habit {
         match rng.below(8) {
             0..=3 => self.favourite,
             4 | 5 => rng.below(2_049) as u32 >> rng.below(9),
-            6 => 2_049 + rng.below(4 * 4_096) as u32,
+            6 => 2_049 + rng.below(4 * PAGE as u64) as u32,
             _ => match rng.below(4) {
                 0 => rng.pick(&[0, 1, 2_048, 2_049, 4_096, 4_097]),
-                1 => rng.below(pages as u64 * 4_096 + 2) as u32,
-                2 => pages as u32 * 4_096 + rng.below(2) as u32,
+                1 => rng.below((pages * PAGE + 2) as u64) as u32,
+                2 => (pages * PAGE) as u32 + rng.below(2) as u32,
                 _ => u32::MAX - rng.below(8_192) as u32,
             },
         }
@@ -42,18 +42,19 @@ impl Habit {
 /// An offset that is likely no block's in a pool of `pages` pages: near a live
 /// one, or anywhere in the pool and around its end.
 pub fn offset(rng: &mut Rng, pages: usize, live: Option<u32>) -> u32 {
-    let end = pages as u32 * 4_096;
+    let page = PAGE as u32;
+    let end = pages as u32 * page;
     match live.filter(|_| rng.once_in(2)) {
         Some(live) => match rng.below(4) {
             0 => live + 1,
             1 => live ^ 8 << rng.below(9),
-            2 => live & !4_095,
-            _ => live + 4_096,
+            2 => live & !(page - 1),
+            _ => live + page,
         },
         None => match rng.below(4) {
             0 => end - rng.below(2) as u32,
             1 => rng.word() as u32,
-            2 => rng.below(pages as u64) as u32 * 4_096,
+            2 => rng.below(pages as u64) as u32 * page,
             _ => rng.below(u64::from(end)) as u32,
         },
     }

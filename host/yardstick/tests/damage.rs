@@ -8,7 +8,7 @@ use reference::layout::{
     set_next, set_previous, set_word, word, ClassRecord, Header, PageNo, PageRecord, CLASS_PAGE,
 };
 use reference::{Call, Class};
-use support::{length, Rng};
+use support::{class_record_at, length, page_at, page_record_at, Rng};
 use yardstick::packed;
 
 /// Puts back what was written.
@@ -32,10 +32,10 @@ fn place(rng: &mut Rng, pages: usize) -> usize {
     let page = rng.below(pages as u64) as usize;
     match rng.below(8) {
         0 => 0,
-        1 | 2 => 8 + 16 * rng.below(9) as usize,
-        3 => 152 + 16 * pages + 4_096 * page + 8 * rng.below(8) as usize,
-        4 => 152 + 16 * page,
-        _ => 160 + 16 * page,
+        1 | 2 => class_record_at(rng.below(9) as usize),
+        3 => page_at(pages, page) + 8 * rng.below(8) as usize,
+        4 => page_record_at(page),
+        _ => page_record_at(page) + 8,
     }
 }
 
@@ -60,7 +60,7 @@ fn wild_write(rng: &mut Rng, pool: &mut [u8], pages: usize, undo: &mut Undo) {
 
 /// Two page records exchanged.
 fn swap_records(rng: &mut Rng, pool: &mut [u8], pages: usize, undo: &mut Undo) {
-    let [left, right] = [(); 2].map(|()| 152 + 16 * rng.below(pages as u64) as usize);
+    let [left, right] = [(); 2].map(|()| page_record_at(rng.below(pages as u64) as usize));
     for half in [0, 8] {
         let (old, new) = (word(pool, left + half), word(pool, right + half));
         undo.write(pool, left + half, new);
@@ -71,7 +71,7 @@ fn swap_records(rng: &mut Rng, pool: &mut [u8], pages: usize, undo: &mut Undo) {
 /// A change that rules of a lower number do not see: made by the second
 /// program's own functions on a copy of header and records.
 fn agreed_change(rng: &mut Rng, pool: &mut [u8], pages: usize, undo: &mut Undo) {
-    let mut new = pool[..152 + 16 * pages].to_vec();
+    let mut new = pool[..page_at(pages, 0)].to_vec();
     let page = PageNo(rng.below(pages as u64) as u32);
     let record = PageRecord::read(&new, page);
     let Some(class) = Class::new(record.class).filter(|_| record.kind == CLASS_PAGE) else {

@@ -4,7 +4,7 @@ mod calls;
 
 use calls::Calls;
 use reference::Call;
-use support::length;
+use support::{length, MOST_PAGES, PAGE};
 use yardstick::native::Pool;
 
 fn agree(seed: u64, pages: usize, turns: usize) {
@@ -28,7 +28,7 @@ fn agree(seed: u64, pages: usize, turns: usize) {
         }
     }
     if pages <= 12 {
-        refuse_alike(&mut pool, &mut bytes, pages as u32 * 4_096);
+        refuse_alike(&mut pool, &mut bytes, (pages * PAGE) as u32);
     }
 }
 
@@ -43,7 +43,7 @@ fn refuse_alike(pool: &mut Pool, bytes: &mut [u8], end: u32) {
 
 #[test]
 fn calls_agree_at_every_page_count() {
-    for pages in 1..=256 {
+    for pages in 1..=MOST_PAGES {
         agree(pages as u64, pages, 1_000);
     }
 }

@@ -5,7 +5,7 @@ mod calls;
 
 use calls::Calls;
 use reference::{Call, Refusal};
-use support::{length, Rng};
+use support::{class_record_at, length, Rng, LONGEST, PAGE, PER_PAGE};
 use yardstick::packed;
 
 type Format = fn(&mut [u8]) -> Result<u32, Refusal>;
@@ -35,7 +35,7 @@ impl Player {
 
 fn agree(seed: u64, pages: usize, turns: usize) {
     let mut calls = Calls::new(seed, pages);
-    let tail = calls.rng.below(4_112) as usize;
+    let tail = calls.rng.below(PER_PAGE as u64) as usize;
     let bytes = calls.rng.bytes(length(pages) + tail);
     let new = |format, alloc, free| Player::new(bytes.clone(), format, alloc, free);
     let mut second = new(
@@ -80,9 +80,9 @@ fn calls_agree_in_large_pools() {
 
 #[test]
 fn lengths_agree() {
-    let end = length(257);
-    let lengths = (0..200).chain(4_000..4_300).chain(end - 2..end + 2);
-    for length in lengths.chain([8_375, 8_376, 8_377, end + 10_000]) {
+    let around = |len| len - 150..len + 150;
+    let lengths = (0..200).chain(around(length(1))).chain(around(length(2)));
+    for length in lengths.chain(LONGEST - 1..LONGEST + 3).chain([2_000_000]) {
         let mut ours = vec![7; length];
         let mut theirs = ours.clone();
         let answer = packed::format(&mut ours);
@@ -111,7 +111,7 @@ fn every_offset_is_freed_or_refused_alike() {
             }
         }
         let (mut ours, mut theirs) = (pool.clone(), pool.clone());
-        for offset in (0..12 * 4_096 + 20).chain([u32::MAX]) {
+        for offset in (0..12 * PAGE as u32 + 20).chain([u32::MAX]) {
             let answer = packed::free_sound(&mut ours, offset);
             assert_eq!(answer, reference::free_sound(&mut theirs, offset));
             if answer.is_ok() {
@@ -129,16 +129,17 @@ fn every_offset_is_freed_or_refused_alike() {
 fn tallies_stop() {
     let mut pool = vec![0; length(1)];
     packed::format(&mut pool).expect("a length that holds a page");
-    packed::alloc(&mut pool, 4_096).expect("a free page");
-    pool[16..24].fill(0xFF);
-    pool[23] = 0xFE;
+    packed::alloc(&mut pool, PAGE as u32).expect("a free page");
+    let tallies = class_record_at(0) + 8..class_record_at(1);
+    pool[tallies.clone()].fill(0xFF);
+    pool[tallies.end - 1] = 0xFE;
     let mut other = pool.clone();
     for _ in 0..3 {
         assert_eq!(packed::alloc(&mut pool, 8), Err(Refusal::NoRoom));
         assert_eq!(reference::alloc(&mut other, 8), Err(Refusal::NoRoom));
         assert!(pool == other, "the tallies differ");
     }
-    assert_eq!(pool[16..24], [0xFF; 8]);
+    assert_eq!(pool[tallies], [0xFF; 8]);
 }
 
 #[test]

@@ -26,17 +26,12 @@ pub const ZEROS: usize = 119;
 
 /// The bit at which a class's record begins.
 pub fn class_record(class: usize) -> usize {
-    (8 + 16 * class) * 8
+    support::class_record_at(class) * 8
 }
 
 /// The bit at which a page's record begins.
 pub fn page_record(page: usize) -> usize {
-    (152 + 16 * page) * 8
-}
-
-/// The byte at which a page begins in a pool of `pages` pages.
-pub fn page_byte(pages: usize, page: usize) -> usize {
-    152 + 16 * pages + 4096 * page
+    support::page_record_at(page) * 8
 }
 
 /// The number in `width` bits from bit `at`, counted from the top of byte 0.

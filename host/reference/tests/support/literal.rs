@@ -25,7 +25,7 @@ fn read_page(bytes: &[u8], pages: usize, page: usize) -> Page {
     let (kind, class) = (field(bits::KIND, 3), field(bits::CLASS, 4));
     let marks = if kind == 2 && class < 9 {
         let map = if class < 3 {
-            8 * bits::page_byte(pages, page)
+            8 * support::page_at(pages, page)
         } else {
             at + bits::MAP
         };
