@@ -15,27 +15,33 @@
 
 static uint8_t pool[DNK_POOL_LENGTH(12)];
 
+static char *text_at(uint32_t offset)
+{
+    return (char *)pool + dnk_place(sizeof pool, offset);
+}
+
 /* Takes a block and keeps a text in it. */
 static uint32_t keep(const char *what, const char *text, uint32_t size)
 {
     dnk_answer answer = dnk_alloc(pool, sizeof pool, size);
-    if (dnk_refusal_of(answer) != DNK_GRANTED) {
-        printf("%s: refused with %d\n", what, dnk_refusal_of(answer));
+    enum dnk_refusal refusal = dnk_refusal_of(answer);
+    if (refusal != DNK_GRANTED) {
+        printf("%s: %s (%d)\n", what, dnk_refusal_name(refusal), refusal);
         exit(EXIT_FAILURE);
     }
     uint32_t offset = dnk_value_of(answer);
-    strcpy((char *)pool + dnk_place(sizeof pool, offset), text);
+    strcpy(text_at(offset), text);
     printf("%s: %" PRIu32 " bytes at %" PRIu32 "\n", what, size, offset);
     return offset;
 }
 
 static void release(const char *what, uint32_t offset)
 {
-    dnk_answer answer = dnk_free(pool, sizeof pool, offset);
-    if (dnk_refusal_of(answer) == DNK_GRANTED) {
+    enum dnk_refusal refusal = dnk_refusal_of(dnk_free(pool, sizeof pool, offset));
+    if (refusal == DNK_GRANTED) {
         printf("%s: freed\n", what);
     } else {
-        printf("%s: refused with %d\n", what, dnk_refusal_of(answer));
+        printf("%s: %s (%d)\n", what, dnk_refusal_name(refusal), refusal);
     }
 }
 
@@ -47,8 +53,8 @@ int main(void)
     uint32_t seconds = keep("leap second table", "2016-12-31: 37", 5000);
     release("star list", stars);
     release("star list", stars);
-    printf("pointing block: %s\n", (char *)pool + dnk_place(sizeof pool, pointing));
-    printf("leap second table: %s\n", (char *)pool + dnk_place(sizeof pool, seconds));
-    printf("broken rule: %" PRIu64 "\n", dnk_validate(pool, sizeof pool));
+    printf("pointing block: %s\n", text_at(pointing));
+    printf("leap second table: %s\n", text_at(seconds));
+    printf("records: %s\n", dnk_validate(pool, sizeof pool) == 0 ? "sound" : "unsound");
     return EXIT_SUCCESS;
 }

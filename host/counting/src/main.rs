@@ -8,6 +8,7 @@
 
 use std::process::ExitCode;
 
+use danumrikal::{check, Offset, Pool, Rule};
 use support::{requests, serve};
 use yardstick::{native, packed, Refusal};
 
@@ -80,9 +81,9 @@ fn checksum(who: &str, pages: u16, before: usize) -> Option<u64> {
             pages,
             before,
             list,
-            danumrikal::broken_rule,
-            danumrikal::alloc,
-            danumrikal::free,
+            |pool| check(pool).err().map_or(0, Rule::number),
+            |pool, size| Pool::new(pool).alloc(size).map(|offset| offset.0),
+            |pool, offset| Pool::new(pool).free(Offset(offset)),
             danumrikal::Refusal::number,
         )),
         "packed" => Some(serve_packed(

@@ -1,6 +1,7 @@
 //! Nanoseconds a request, of 100,000 mixed allocs and frees: the proved calls,
 //! and what they are measured by.
 
+use danumrikal::{Offset, Pool, Refusal};
 use support::{best_in_turn, length, requests, serve};
 use yardstick::{native, packed};
 
@@ -30,8 +31,13 @@ fn main() {
         let (alloc, free) = (native::Pool::alloc, native::Pool::free);
         let list = &requests(REQUESTS, &mut new(), alloc, free);
 
-        let number = danumrikal::Refusal::number;
-        let mut proved = on_bytes(list, pages, danumrikal::alloc, danumrikal::free, number);
+        let mut proved = on_bytes(
+            list,
+            pages,
+            |pool, size| Pool::new(pool).alloc(size).map(|offset| offset.0),
+            |pool, offset| Pool::new(pool).free(Offset(offset)),
+            Refusal::number,
+        );
         let number = reference::Refusal::number;
         let mut packed = on_bytes(list, pages, packed::alloc, packed::free, number);
         let mut second = on_bytes(list, pages, reference::alloc, reference::free, number);

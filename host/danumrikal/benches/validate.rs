@@ -2,6 +2,7 @@
 
 use std::hint::black_box;
 
+use danumrikal::{check, Rule};
 use support::{best_in_turn, length, mixed_size, Rng};
 use yardstick::packed;
 
@@ -42,7 +43,9 @@ fn main() {
         let best = best_in_turn(
             ROUNDS,
             [
-                &mut times(calls, pool, danumrikal::broken_rule),
+                &mut times(calls, pool, |pool| {
+                    check(pool).err().map_or(0, Rule::number)
+                }),
                 &mut times(calls, pool, packed::broken_rule),
                 &mut times(calls, pool, reference::broken_rule),
             ],

@@ -6,32 +6,33 @@
 //! cargo run --offline --manifest-path host/Cargo.toml -p danumrikal --example night
 //! ```
 
-use danumrikal::{alloc, block_range, broken_rule, format, free, length, Refusal};
+use danumrikal::{length, Offset, Pool, Refusal};
 
 /// Takes a block and keeps a text in it.
-fn keep(pool: &mut [u8], what: &str, text: &str, size: u32) -> Result<u32, Refusal> {
-    let offset = alloc(pool, size)?;
-    let place = block_range(pool, offset, text.len() as u32).expect("a block in the pages");
-    pool[place].copy_from_slice(text.as_bytes());
+fn keep(pool: &mut Pool, what: &str, text: &str, size: u32) -> Result<Offset, Refusal> {
+    let offset = pool.alloc(size)?;
+    let block = pool.block_mut(offset, size).expect("inside the pages");
+    block[..text.len()].copy_from_slice(text.as_bytes());
     println!("{what}: {size} bytes at {offset}");
     Ok(offset)
 }
 
-fn release(pool: &mut [u8], what: &str, offset: u32) {
-    match free(pool, offset) {
+fn release(pool: &mut Pool, what: &str, offset: Offset) {
+    match pool.free(offset) {
         Ok(()) => println!("{what}: freed"),
-        Err(refusal) => println!("{what}: refused with {}", refusal.number()),
+        Err(refusal) => println!("{what}: {refusal}"),
     }
 }
 
-fn print(pool: &[u8], what: &str, offset: u32, size: u32) {
-    let place = block_range(pool, offset, size).expect("a block in the pages");
-    println!("{what}: {}", String::from_utf8_lossy(&pool[place]));
+fn print(pool: &Pool, what: &str, offset: Offset, size: usize) {
+    let block = pool.block(offset, size as u32).expect("inside the pages");
+    println!("{what}: {}", String::from_utf8_lossy(block));
 }
 
 fn main() -> Result<(), Refusal> {
-    let mut pool = vec![0; length(12)];
-    println!("pages: {}", format(&mut pool)?);
+    let mut bytes = vec![0; length(12)];
+    let mut pool = Pool::new(&mut bytes);
+    println!("pages: {}", pool.format()?);
     let stars = keep(&mut pool, "star list", "Vega, Altair, Deneb", 30)?;
     let angles = "azimuth 181.5, altitude 47.2";
     let pointing = keep(&mut pool, "pointing block", angles, 64)?;
@@ -39,8 +40,11 @@ fn main() -> Result<(), Refusal> {
     let seconds = keep(&mut pool, "leap second table", last, 5_000)?;
     release(&mut pool, "star list", stars);
     release(&mut pool, "star list", stars);
-    print(&pool, "pointing block", pointing, angles.len() as u32);
-    print(&pool, "leap second table", seconds, last.len() as u32);
-    println!("broken rule: {}", broken_rule(&pool));
+    print(&pool, "pointing block", pointing, angles.len());
+    print(&pool, "leap second table", seconds, last.len());
+    match pool.check() {
+        Ok(()) => println!("records: sound"),
+        Err(rule) => println!("records: broken rule {rule}"),
+    }
     Ok(())
 }

@@ -1,14 +1,15 @@
 use std::fmt;
 
-/// Why a call was refused. No other refusals exist.
+/// Why a call was refused. More may come with further calls.
 ///
 /// ```
-/// use danumrikal::Refusal;
+/// use danumrikal::{Pool, Refusal};
 ///
-/// let refused = danumrikal::format(&mut [0; 4_263]).unwrap_err();
+/// let refused = Pool::new(&mut [0; 4_263]).format().unwrap_err();
 /// assert_eq!(refused, Refusal::TooShort);
 /// assert_eq!(refused.to_string(), "too short (1)");
 /// ```
+#[non_exhaustive]
 #[derive(Clone, Copy, Debug, PartialEq, Eq, Hash)]
 pub enum Refusal {
     /// Format: the slice is shorter than 4,264 bytes and holds no page.
@@ -22,7 +23,7 @@ pub enum Refusal {
     NoRoom = 4,
     /// Free: the offset lies past the pages.
     Outside = 5,
-    /// Free: the page is free, or the chunk is: a block freed twice.
+    /// Free: the page is free, or the chunk is.
     NotTaken = 6,
     /// Free: no block can begin at the offset.
     NotAStart = 7,
@@ -44,7 +45,7 @@ impl Refusal {
         ALL.into_iter().find(|refusal| refusal.number() == number)
     }
 
-    /// The refusal's number in the table of refusals, 1 to 7.
+    /// The refusal's number in the table of refusals.
     ///
     /// ```
     /// assert_eq!(danumrikal::Refusal::NotTaken.number(), 6);

@@ -1,41 +1,45 @@
 //! Document 01's examples that are not theorems, and the whole script case.
 
-fn pool(pages: usize) -> Vec<u8> {
-    let mut pool = vec![0; 152 + 4_112 * pages];
-    assert_eq!(danumrikal::format(&mut pool), Ok(pages as u32));
-    pool
-}
+use danumrikal::{Offset, Pool, Refusal};
+use support::{length, PAGE};
 
-fn number<T>(answer: Result<T, danumrikal::Refusal>) -> u8 {
-    answer.err().map_or(0, danumrikal::Refusal::number)
+/// A pool of so many pages, formatted.
+fn bytes(pages: usize) -> Vec<u8> {
+    let mut bytes = vec![0; length(pages)];
+    assert_eq!(Pool::new(&mut bytes).format(), Ok(pages as u32));
+    bytes
 }
 
 #[test]
 fn a_page_of_class_8_has_504_chunks_for_callers() {
-    let mut pool = pool(1);
+    let mut bytes = bytes(1);
+    let mut pool = Pool::new(&mut bytes);
     for chunk in 0..503 {
-        assert_eq!(danumrikal::alloc(&mut pool, 8), Ok(64 + 8 * chunk));
+        assert_eq!(pool.alloc(8), Ok(Offset(64 + 8 * chunk)));
     }
-    assert_eq!(danumrikal::alloc(&mut pool, 8), Ok(4_088));
-    assert_eq!(number(danumrikal::alloc(&mut pool, 8)), 4);
-    assert!(danumrikal::validate(&pool));
+    assert_eq!(pool.alloc(8), Ok(Offset(4_088)));
+    assert_eq!(pool.alloc(8), Err(Refusal::NoRoom));
+    assert_eq!(pool.check(), Ok(()));
 }
 
 #[test]
 fn offsets_at_the_end_of_the_pool() {
-    let mut pool = pool(12);
-    assert_eq!(number(danumrikal::free(&mut pool, 49_151)), 6);
-    assert_eq!(number(danumrikal::free(&mut pool, 49_152)), 5);
+    let mut bytes = bytes(12);
+    let mut pool = Pool::new(&mut bytes);
+    let end = 12 * PAGE as u32;
+    assert_eq!(pool.free(Offset(end - 1)), Err(Refusal::NotTaken));
+    assert_eq!(pool.free(Offset(end)), Err(Refusal::Outside));
 }
 
 #[test]
 fn the_whole_case() {
-    let mut pool = pool(12);
-    assert_eq!(danumrikal::alloc(&mut pool, 30), Ok(32));
-    assert_eq!(danumrikal::alloc(&mut pool, 64), Ok(4_096));
-    assert_eq!(danumrikal::alloc(&mut pool, 5_000), Ok(8_192));
-    assert_eq!(danumrikal::free(&mut pool, 32), Ok(()));
-    assert_eq!(number(danumrikal::free(&mut pool, 32)), 6);
-    assert_eq!(danumrikal::alloc(&mut pool, 0), Ok(64));
-    assert!(danumrikal::validate(&pool));
+    let mut bytes = bytes(12);
+    let mut pool = Pool::new(&mut bytes);
+    assert_eq!(pool.alloc(30), Ok(Offset(32)));
+    assert_eq!(pool.alloc(64), Ok(Offset(4_096)));
+    assert_eq!(pool.alloc(5_000), Ok(Offset(8_192)));
+    assert_eq!(pool.free(Offset(32)), Ok(()));
+    assert_eq!(pool.free(Offset(32)), Err(Refusal::NotTaken));
+    assert_eq!(pool.alloc(0), Ok(Offset(64)));
+    assert_eq!(pool.check(), Ok(()));
 }

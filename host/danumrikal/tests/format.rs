@@ -1,11 +1,14 @@
 //! Format against the second program: answer and every byte of the slice.
 
-use support::Rng;
+use danumrikal::Pool;
+use support::{length, Rng, LONGEST, MOST_PAGES, PER_PAGE, SHORTEST};
 
 fn same(len: usize, seed: u64) {
     let mut ours = Rng::new(seed).bytes(len);
     let mut theirs = ours.clone();
-    let left = danumrikal::format(&mut ours).map_err(|refusal| refusal.number());
+    let left = Pool::new(&mut ours)
+        .format()
+        .map_err(|refusal| refusal.number());
     let right = reference::format(&mut theirs).map_err(|refusal| refusal.number());
     assert_eq!(left, right, "length {len}");
     assert!(ours == theirs, "length {len}: the slices differ");
@@ -13,31 +16,30 @@ fn same(len: usize, seed: u64) {
 
 #[test]
 fn lengths_around_the_first_pages_and_the_limits() {
-    for len in (0..200).chain(4_200..4_300).chain(8_350..8_400) {
+    let around = |len| len - 50..len + 50;
+    for len in (0..200).chain(around(length(1))).chain(around(length(2))) {
         same(len, len as u64 + 1);
     }
-    for len in [
-        49_495, 49_496, 49_497, 1_056_934, 1_056_935, 1_056_936, 1_056_937, 2_000_000,
-    ] {
+    let ends = [length(12), LONGEST].map(|len| len - 2..len + 3);
+    for len in ends.into_iter().flatten().chain([2_000_000]) {
         same(len, len as u64);
     }
 }
 
 #[test]
 fn every_page_count() {
-    for pages in 1..=256 {
-        same(152 + 4_112 * pages + pages * 7 % 4_112, pages as u64);
+    for pages in 1..=MOST_PAGES {
+        same(length(pages) + pages * 7 % PER_PAGE, pages as u64);
     }
 }
 
 #[test]
 fn refusals_by_length() {
     let refusal = |len| {
-        danumrikal::format(&mut vec![0xa5; len])
-            .unwrap_err()
-            .number()
+        let refused = Pool::new(&mut vec![0xa5; len]).format();
+        refused.unwrap_err().number()
     };
     assert_eq!(refusal(0), 1);
-    assert_eq!(refusal(4_263), 1);
-    assert_eq!(refusal(1_056_936), 2);
+    assert_eq!(refusal(SHORTEST - 1), 1);
+    assert_eq!(refusal(LONGEST + 1), 2);
 }

@@ -1,7 +1,10 @@
 //! A broken example for each rule, and the number that it earns: the table of
 //! `docs/RULES.md`, which this test holds against what the pool answers.
 
-use support::Rng;
+use danumrikal::{check, Offset, Pool, Refusal};
+use support::{
+    callers_bytes, class_record_at, length, page_at, page_record_at, Rng, LONGEST, RECORD, SHORTEST,
+};
 
 const PAGES: usize = 8;
 const NONE: u64 = 65_535;
@@ -26,17 +29,17 @@ fn header(pool: &mut [u8], low: u32, width: u32, value: u64) {
 
 /// First page, used and total of a class.
 fn counts(pool: &mut [u8], class: usize, low: u32, width: u32, value: u64) {
-    set(pool, 8 + 16 * class, low, width, value);
+    set(pool, class_record_at(class), low, width, value);
 }
 
 fn map(pool: &mut [u8], page: usize, value: u64) {
-    let at = 152 + 16 * page;
+    let at = page_record_at(page);
     pool[at..at + 8].copy_from_slice(&value.to_be_bytes());
 }
 
 /// A field of a page record but its map.
 fn field(pool: &mut [u8], page: usize, low: u32, width: u32, value: u64) {
-    set(pool, 160 + 16 * page, low, width, value);
+    set(pool, page_record_at(page) + 8, low, width, value);
 }
 
 fn kind(pool: &mut [u8], page: usize, value: u64) {
@@ -62,45 +65,50 @@ fn previous(pool: &mut [u8], page: usize, value: u64) {
 /// Page 0 of class 8, page 1 free, page 2 full of class 2,048, pages 3 and 4 a
 /// taken run, pages 5 to 7 free; the list of free runs is 1, 5.
 fn sound() -> Vec<u8> {
-    let mut pool = vec![0; 152 + 4_112 * PAGES + 100];
-    danumrikal::format(&mut pool).expect("eight pages");
-    let mut alloc = |size| danumrikal::alloc(&mut pool, size).expect("room");
-    assert_eq!(alloc(8), 64);
-    let chunk = alloc(64);
-    assert_eq!((alloc(2_048), alloc(2_048)), (8_192, 10_240));
-    assert_eq!(alloc(8_192), 12_288);
-    danumrikal::free(&mut pool, chunk).expect("a live block");
-    pool
+    let mut bytes = vec![0; length(PAGES) + 100];
+    let mut pool = Pool::new(&mut bytes);
+    pool.format().expect("eight pages");
+    assert_eq!(pool.alloc(8), Ok(Offset(64)));
+    let chunk = pool.alloc(64).expect("room");
+    assert_eq!(pool.alloc(2_048), Ok(Offset(8_192)));
+    assert_eq!(pool.alloc(2_048), Ok(Offset(10_240)));
+    assert_eq!(pool.alloc(8_192), Ok(Offset(12_288)));
+    pool.free(chunk).expect("a live block");
+    bytes
 }
+
+/// Where the map of page 0 lies, which is of class 8.
+const MAP: usize = page_at(PAGES, 0);
 
 const CASES: &[(&str, Damage)] = &[
     ("nothing is damaged", |_| {}),
     ("callers' bytes and the tail hold anything", |pool| {
-        let start = 152 + 16 * PAGES;
-        let end = pool.len();
-        pool[start + 64..start + 4_096].fill(0xa5);
-        pool[start + 4_096..end].fill(0x5a);
+        pool[callers_bytes(PAGES, 0, 64)].fill(0xa5);
+        pool[page_at(PAGES, 1)..].fill(0x5a);
     }),
     (
         "reqs and fails of every class are the largest numbers",
         |pool| {
             for class in 0..9 {
-                pool[16 + 16 * class..24 + 16 * class].fill(0xff);
+                let at = class_record_at(class);
+                pool[at + 8..at + RECORD].fill(0xff);
             }
         },
     ),
     ("the slice is empty", |pool| pool.clear()),
     ("the slice is all zero", |pool| pool.fill(0)),
     ("the slice is all ones", |pool| pool.fill(0xff)),
-    ("random bytes", |pool| *pool = Rng::new(5).bytes(49_496)),
-    ("one byte too few for a page", |pool| pool.truncate(4_263)),
+    ("random bytes", |pool| *pool = Rng::new(5).bytes(length(12))),
+    ("one byte too few for a page", |pool| {
+        pool.truncate(SHORTEST - 1)
+    }),
     ("a page fewer than the header says", |pool| {
-        pool.truncate(152 + 4_112 * 7)
+        pool.truncate(length(7))
     }),
     ("a page more than the header says", |pool| {
-        pool.resize(152 + 4_112 * 9, 0)
+        pool.resize(length(9), 0)
     }),
-    ("as long as 257 pages", |pool| pool.resize(1_056_936, 0)),
+    ("as long as 257 pages", |pool| pool.resize(LONGEST + 1, 0)),
     ("edition 0", |pool| header(pool, 56, 8, 0)),
     ("edition 2", |pool| header(pool, 56, 8, 2)),
     ("smallest shift 4", |pool| header(pool, 52, 4, 4)),
@@ -137,9 +145,7 @@ const CASES: &[(&str, Damage)] = &[
     }),
     ("a class page of class 9", |pool| class(pool, 2, 9)),
     ("a class page has a run length", |pool| run(pool, 0, 1)),
-    ("a chunk of the map is not marked", |pool| {
-        pool[152 + 16 * PAGES] = 0x7f
-    }),
+    ("a chunk of the map is not marked", |pool| pool[MAP] = 0x7f),
     ("a page of class 8 has a map field", |pool| map(pool, 0, 1)),
     ("an unused low bit of a map is set", |pool| {
         map(pool, 2, 0xc000_0000_0000_0001)
@@ -200,7 +206,7 @@ const CASES: &[(&str, Damage)] = &[
         previous(pool, 0, 2)
     }),
     ("a class page without a chunk in use", |pool| {
-        pool[152 + 16 * PAGES + 1] = 0
+        pool[MAP + 1] = 0
     }),
     ("free pages one too many", |pool| header(pool, 16, 16, 5)),
     ("free pages one too few", |pool| header(pool, 16, 16, 3)),
@@ -208,9 +214,7 @@ const CASES: &[(&str, Damage)] = &[
     ("used counts the map's own chunks", |pool| {
         counts(pool, 0, 24, 24, 9)
     }),
-    ("a mark that used does not count", |pool| {
-        pool[152 + 16 * PAGES + 63] = 1
-    }),
+    ("a mark that used does not count", |pool| pool[MAP + 63] = 1),
     ("total without the map's own chunks", |pool| {
         counts(pool, 0, 0, 24, 504)
     }),
@@ -227,11 +231,11 @@ fn table() -> String {
     for (name, damage) in CASES {
         let mut pool = sound();
         damage(&mut pool);
-        let rule = danumrikal::broken_rule(&pool);
+        let rule = check(&pool).err().map_or(0, |rule| rule.number());
         assert_eq!(rule, reference::broken_rule(&pool), "{name}");
         let before = pool.clone();
-        let refused = danumrikal::alloc(&mut pool, 1).map_err(|refusal| refusal.number());
-        assert_eq!(refused == Err(3), rule != 0, "{name}");
+        let answer = Pool::new(&mut pool).alloc(1);
+        assert_eq!(answer == Err(Refusal::NotSound), rule != 0, "{name}");
         assert!(
             rule == 0 || pool == before,
             "{name}: a refused call changed the pool"

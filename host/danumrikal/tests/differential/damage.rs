@@ -5,7 +5,7 @@ use reference::layout::{
     TAKEN_FIRST, TAKEN_INSIDE,
 };
 use reference::Class;
-use support::Rng;
+use support::{class_record_at, page_at, page_record_at, Rng};
 
 use crate::case::Turn;
 use crate::game::Game;
@@ -29,7 +29,7 @@ pub fn damage(rng: &mut Rng, pages: usize, game: &Game) -> Vec<Turn> {
         at,
         bits: word(old, at) ^ word(&new, at),
     };
-    let words = (0..152 + 16 * pages).step_by(8);
+    let words = (0..page_at(pages, 0)).step_by(8);
     let differ = |at: &usize| word(old, *at) != word(&new, *at);
     words.filter(differ).map(turn).collect()
 }
@@ -38,13 +38,13 @@ fn wild_write(rng: &mut Rng, pages: usize, game: &Game) -> Turn {
     let page = rng.below(pages as u64) as usize;
     let at = match rng.below(8) {
         0 => 0,
-        1 | 2 => 8 + 8 * rng.below(18) as usize,
+        1 | 2 => class_record_at(0) + 8 * rng.below(18) as usize,
         3 if game.map_bytes(page) > 0 => {
             let word = rng.below(game.map_bytes(page) as u64 / 8) as usize;
-            152 + 16 * pages + 4_096 * page + 8 * word
+            page_at(pages, page) + 8 * word
         }
-        4 => 152 + 16 * page,
-        _ => 160 + 16 * page,
+        4 => page_record_at(page),
+        _ => page_record_at(page) + 8,
     };
     let bits = match rng.below(5) {
         // A page number for another one, in one of the links.

@@ -4,7 +4,7 @@
 
 use reference::layout::{set_word, word, ClassRecord};
 use reference::{alloc_sound, free_sound, live_blocks, need, shown, Block, Class, Need};
-use support::length;
+use support::{length, page_at, HEAD, PAGE, PER_PAGE};
 
 use crate::case::{Case, Setting, Turn};
 use crate::player::{play_all, Found, Plan};
@@ -21,7 +21,7 @@ const BELIEVES_A_SECOND_FREE: Program = Program {
 
 /// The class of the page at an offset, where it is a class page.
 fn class_at(pool: &[u8], offset: u32) -> Option<Class> {
-    shown(pool)?.classes[offset as usize / 4_096]
+    shown(pool)?.classes[offset as usize / PAGE]
 }
 
 const HANDS_OUT_TWICE: Program = Program {
@@ -79,14 +79,14 @@ const FORGETS_TO_COUNT_FREES: Program = Program {
 const LETS_THE_END_THROUGH: Program = Program {
     name: "lets the end through",
     free: |pool, offset| match (SECOND.free)(pool, offset) {
-        Err(5) if offset as usize == 4_096 * pages(pool) => Err(6),
+        Err(5) if offset as usize == PAGE * pages(pool) => Err(6),
         answer => answer,
     },
     ..SECOND
 };
 
 fn pages(pool: &[u8]) -> usize {
-    (pool.len() - length(0)) / (length(1) - length(0))
+    (pool.len() - HEAD) / PER_PAGE
 }
 
 const WIPES_WHAT_IS_FREED: Program = Program {
@@ -94,8 +94,8 @@ const WIPES_WHAT_IS_FREED: Program = Program {
     free: |pool, offset| {
         let answer = (SECOND.free)(pool, offset);
         if answer.is_ok() {
-            let block = danumrikal::block_range(pool, offset, 8).expect("a block's first bytes");
-            pool[block].fill(0);
+            let at = page_at(pages(pool), 0) + offset as usize;
+            pool[at..at + 8].fill(0);
         }
         answer
     },

@@ -7,7 +7,7 @@ use std::ops::Range;
 
 use reference::layout::{set_word, word, ClassRecord};
 use reference::{live_blocks, need, shown, Call, Class, LiveSet, Need, View};
-use support::{callers_bytes, length, Rng};
+use support::{callers_bytes, length, page_at, Rng, HEAD, HEADER, RECORD};
 
 use crate::case::{Case, Setting, Turn};
 use crate::program::Program;
@@ -342,19 +342,19 @@ impl Game {
         let Some(byte) = at.checked_sub(self.pool.start) else {
             return "a byte before the pool".into();
         };
-        let first = callers_bytes(pages, 0, 0).start;
+        let first = page_at(pages, 0);
         match byte {
-            0..8 => format!("byte {byte} of the header"),
-            8..152 => format!(
+            0..HEADER => format!("byte {byte} of the header"),
+            HEADER..HEAD => format!(
                 "byte {} of class record {}",
-                (byte - 8) % 16,
-                (byte - 8) / 16
+                (byte - HEADER) % RECORD,
+                (byte - HEADER) / RECORD
             ),
             _ if byte < first => {
                 format!(
                     "byte {} of page record {}",
-                    (byte - 152) % 16,
-                    (byte - 152) / 16
+                    (byte - HEAD) % RECORD,
+                    (byte - HEAD) / RECORD
                 )
             }
             _ if byte < length(pages) => format!("offset {}", byte - first),

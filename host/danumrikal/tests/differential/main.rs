@@ -21,7 +21,7 @@ mod shrink;
 
 use player::{play_all, Plan, Seen};
 use program::{PROVED, SECOND};
-use support::{Habit, Rng};
+use support::{length, Habit, Rng, HEAD, MOST_PAGES, SHORTEST};
 
 /// How many times the usual number of games is played.
 fn times() -> u64 {
@@ -45,10 +45,10 @@ fn compare(calls: u64, plans: impl Iterator<Item = Plan>) -> Seen {
 
 #[test]
 fn every_page_count() {
-    let games = 0..256 * times();
+    let games = 0..MOST_PAGES as u64 * times();
     let seen = compare(
         30_000,
-        games.map(|game| Plan::new(game, 1 + game as usize % 256, 100)),
+        games.map(|game| Plan::new(game, 1 + game as usize % MOST_PAGES, 100)),
     );
     assert_eq!(seen.refused[3], 0);
     assert!(seen.refused[4..].iter().all(|count| *count > 100));
@@ -119,10 +119,12 @@ fn damaged_pools_are_validated_alike_and_stay_whole() {
 
 #[test]
 fn any_bytes_are_answered() {
-    for len in [0, 1, 7, 8, 151, 152, 4_263, 4_264, 8_375, 8_376, 49_496] {
+    let ends = [HEAD, SHORTEST, length(2)].map(|len| [len - 1, len]);
+    let lengths = [0, 1, 7, 8, length(12)].into_iter();
+    for len in lengths.chain(ends.into_iter().flatten()) {
         let random = Rng::new(len as u64).bytes(len);
         for mut bytes in [vec![0x00; len], vec![0xff; len], vec![0x55; len], random] {
-            let rule = danumrikal::broken_rule(&bytes);
+            let rule = (PROVED.broken_rule)(&bytes);
             assert_eq!(rule, reference::broken_rule(&bytes), "length {len}");
             let before = bytes.clone();
             assert_eq!((PROVED.alloc)(&mut bytes, 1), Err(3), "length {len}");

@@ -4,7 +4,7 @@ use std::fmt;
 use std::ops::AddAssign;
 
 use reference::{need, Need};
-use support::{Habit, Rng};
+use support::{Habit, Rng, PER_PAGE};
 
 use crate::case::{Case, Setting, Turn};
 use crate::damage::damage;
@@ -185,7 +185,7 @@ fn play(programs: [Program; 2], plan: Plan) -> Result<Seen, Case> {
     let setting = Setting {
         seed: plan.seed,
         pages: plan.pages,
-        tail: rng.below(4_112) as usize,
+        tail: rng.below(PER_PAGE as u64) as usize,
         scrambled: true,
     };
     let mut case = Case {

@@ -1,3 +1,5 @@
+use danumrikal::{check, Offset, Pool};
+
 /// A program that keeps pools. Refusals are told by their numbers.
 #[derive(Clone, Copy)]
 pub struct Program {
@@ -10,10 +12,16 @@ pub struct Program {
 
 pub const PROVED: Program = Program {
     name: "proved",
-    format: |pool| danumrikal::format(pool).map_err(|refusal| refusal.number()),
-    broken_rule: danumrikal::broken_rule,
-    alloc: |pool, size| danumrikal::alloc(pool, size).map_err(|refusal| refusal.number()),
-    free: |pool, offset| danumrikal::free(pool, offset).map_err(|refusal| refusal.number()),
+    format: |pool| Pool::new(pool).format().map_err(|refusal| refusal.number()),
+    broken_rule: |pool| check(pool).err().map_or(0, |rule| rule.number()),
+    alloc: |pool, size| match Pool::new(pool).alloc(size) {
+        Ok(Offset(offset)) => Ok(offset),
+        Err(refusal) => Err(refusal.number()),
+    },
+    free: |pool, offset| {
+        let answer = Pool::new(pool).free(Offset(offset));
+        answer.map_err(|refusal| refusal.number())
+    },
 };
 
 pub const SECOND: Program = Program {
