@@ -37,3 +37,7 @@ mod rule;
 pub use pool::{check, length, Offset, Pool, MOST_PAGES, PAGE};
 pub use refusal::Refusal;
 pub use rule::Rule;
+
+#[cfg(doctest)]
+#[doc = include_str!("../../../README.md")]
+struct Readme;

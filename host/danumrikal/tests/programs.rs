@@ -1,13 +1,23 @@
 //! The examples in C and in Rust, and the C header, as a newcomer would build
-//! and run them.
+//! and run them. The README's example in Rust runs with the documentation's.
 
+use std::fs;
 use std::path::{Path, PathBuf};
 use std::process::Command;
 
 const NIGHT: &str = include_str!("../../../examples/night.stdout");
+const README: &str = include_str!("../../../README.md");
+
+/// As strictly as compilers can.
+const WARNINGS: [&str; 4] = ["-Wall", "-Wextra", "-Werror", "-pedantic"];
 
 fn root() -> PathBuf {
     Path::new(env!("CARGO_MANIFEST_DIR")).join("../..")
+}
+
+/// A file that tests may write.
+fn scratch(name: &str) -> PathBuf {
+    Path::new(env!("CARGO_TARGET_TMPDIR")).join(name)
 }
 
 /// Runs a command and answers what it printed.
@@ -23,24 +33,28 @@ fn run(command: &mut Command) -> String {
     printed
 }
 
-/// Builds a C program of one file, as strictly as the compiler can, and runs it.
-fn run_c(source: &str) -> String {
-    let source = root().join(source);
-    let name = source.file_stem().expect("a file's name");
-    let program = Path::new(env!("CARGO_TARGET_TMPDIR")).join(name);
-    run(Command::new("cc")
-        .args(["-std=c99", "-Wall", "-Wextra", "-Werror", "-pedantic", "-I"])
+/// Builds a program of one file with a compiler and its language, and runs it.
+fn build_and_run(compiler: &[&str], source: &Path, name: &str) -> String {
+    let program = scratch(name);
+    run(Command::new(compiler[0])
+        .args(&compiler[1..])
+        .args(WARNINGS)
+        .arg("-I")
         .arg(root().join("include"))
         .arg(source)
+        .args(["-x", "none"])
         .arg(root().join("target/staticlib/libdanumrikal.a"))
         .arg("-o")
         .arg(&program));
     run(&mut Command::new(program))
 }
 
+const C: [&str; 2] = ["cc", "-std=c99"];
+
 #[test]
 fn the_night_in_c() {
-    assert_eq!(run_c("examples/night.c"), NIGHT);
+    let source = root().join("examples/night.c");
+    assert_eq!(build_and_run(&C, &source, "night"), NIGHT);
 }
 
 #[test]
@@ -55,6 +69,21 @@ fn the_night_in_rust() {
 }
 
 #[test]
+fn the_readme_in_c() {
+    let (_, after) = README.split_once("```c\n").expect("an example in C");
+    let (example, _) = after.split_once("```\n").expect("its end");
+    let source = scratch("readme.c");
+    fs::write(&source, example).expect("a file is written");
+    assert_eq!(build_and_run(&C, &source, "readme"), "not taken (6)\n");
+}
+
+#[test]
 fn the_header_says_what_the_archive_answers() {
-    assert_eq!(run_c("host/danumrikal/tests/header.c"), "");
+    let source = root().join("host/danumrikal/tests/header.c");
+    assert_eq!(build_and_run(&C, &source, "header"), "");
+    // the tests must not need a compiler for C++
+    if Command::new("c++").arg("--version").output().is_ok() {
+        let cpp = ["c++", "-std=c++11", "-x", "c++"];
+        assert_eq!(build_and_run(&cpp, &source, "header-cpp"), "");
+    }
 }
