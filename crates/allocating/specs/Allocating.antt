@@ -1,4 +1,4 @@
--- Alloc on sound records, in the bytes of a pool of P pages: what is answered and what is left, in the order of the code. Assumes nothing.
+-- Alloc on sound records, in the bytes of a pool of P pages: what is answered and what is left, in the order of the code.
 use Prim.Native.Nat.{ℕ, _+_, _*_, _%_}
 use mathlib.Core.List.{List}
 use lib.Dec.{eqb, leb}

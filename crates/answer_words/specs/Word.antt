@@ -1,4 +1,4 @@
--- An answer in one word: the refusal's number in the top 8 bits, 24 zero bits, the value in the low 32. Assumes nothing.
+-- An answer in one word: the refusal's number in the top 8 bits, 24 zero bits, the value in the low 32.
 use Prim.Native.Nat.{ℕ, _+_, _*_}
 use Rattle.answers.specs.Outcome.{Outcome}
 

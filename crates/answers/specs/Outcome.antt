@@ -1,4 +1,4 @@
--- What a call's answer says in document 01's terms: the refusal's number, 0 where the call is granted, and the value. Assumes nothing.
+-- What a call's answer says in document 01's terms: the refusal's number, 0 where the call is granted, and the value.
 use Prim.Native.Nat.{ℕ}
 use Rattle.answers.specs.declared.Refusal.{Refusal}
 use Rattle.answers.specs.declared.Refusal.the-variants.{TooShort, TooLong, NotSound, NoRoom, Outside, NotTaken, NotAStart, Unreadable, ScriptTooLong}

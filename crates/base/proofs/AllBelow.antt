@@ -1,4 +1,4 @@
--- What `allOf` and `allBelow` of `specs/Tests.antt`, and a test that is asked only where another holds, say. Assumes nothing.
+-- What `allOf` and `allBelow` of `specs/Tests.antt`, and a test that is asked only where another holds, say.
 use mathlib.Core.Path.{_≡_, refl, sym}
 use mathlib.Core.Bool.{Bool, true, false, false≢true}
 use mathlib.Core.List.{List, [], _∷_}

@@ -1,4 +1,4 @@
--- The three changes of a linked list, each as the stores that make it: a page leaves, comes in front, takes another's place. Assumes nothing.
+-- The three changes of a linked list, each as the stores that make it: a page leaves, comes in front, takes another's place.
 use mathlib.Core.Path.{_≡_, refl, sym, _∙_}
 use mathlib.Core.Logic.{_⊎_, inl, inr, _≢_}
 use mathlib.Core.Bool.{true, cond}

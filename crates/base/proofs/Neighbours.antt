@@ -1,5 +1,5 @@
 -- How the neighbours in a list without repeats change when a page leaves it, takes another's place or comes in front,
--- in the shape of the stores that change the links. Assumes nothing.
+-- in the shape of the stores that change the links.
 use mathlib.Core.Path.{_≡_, refl, sym, ap, _∙_, subst}
 use mathlib.Core.Logic.{_⊎_, inl, inr, _≢_}
 use mathlib.Core.Bool.{Bool, true, false, cond, not}

@@ -1,5 +1,5 @@
 -- A list without repeats of numbers below n that pass a test is no longer than they are many; where it is as long, it holds them all.
--- Assumes nothing.
+--
 use mathlib.Core.Path.{_≡_, refl, sym, ap, _∙_}
 use mathlib.Core.Logic.{_⊎_, inl, inr, _≢_}
 use mathlib.Core.Bool.{Bool, true, false}

@@ -1,4 +1,4 @@
--- A choice by a test, from the fact that a branch gives. At a `returns`: `pick-lt _ _ (search) (cc)`. Assumes nothing.
+-- A choice by a test, from the fact that a branch gives. At a `returns`: `pick-lt _ _ (search) (cc)`.
 use mathlib.Core.Path.{_≡_, refl, sym, _∙_}
 use mathlib.Core.Bool.{Bool, true, false, false≢true}
 use Prim.Native.Nat.{ℕ, _≤_, _<_}

@@ -1,4 +1,4 @@
--- A doubly linked list of pages, as next and previous show it. Assumes nothing.
+-- A doubly linked list of pages, as next and previous show it.
 -- z stands for no page; hd, which is no page of the list, for the place that holds its first page: the next of hd is the first page.
 use mathlib.Core.Path.{_≡_}
 use mathlib.Core.Bool.{Bool, cond, not}

@@ -1,4 +1,4 @@
--- Choices and tests that code makes. Assumes nothing.
+-- Choices and tests that code makes.
 use mathlib.Core.Bool.{Bool, true, false}
 use mathlib.Core.List.{List, [], _∷_}
 use Prim.Native.Nat.{ℕ, zero, suc}

@@ -1,4 +1,4 @@
--- A number put together from marks, from the top down, and a byte's eight bits. Assumes nothing.
+-- A number put together from marks, from the top down, and a byte's eight bits.
 use mathlib.Core.Path.{_≡_, refl, sym, ap, _∙_}
 use mathlib.Core.Logic.{_⊎_, inl, inr, _≢_}
 use mathlib.Core.Bool.{Bool, true, false}

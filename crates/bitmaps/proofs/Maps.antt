@@ -1,4 +1,4 @@
--- The bytes of a whole map and its marks tell each other, wherever the map lies. Assumes nothing.
+-- The bytes of a whole map and its marks tell each other, wherever the map lies.
 use mathlib.Core.Path.{_≡_, refl, sym, ap, _∙_}
 use mathlib.Core.Logic.{_⊎_, inl, inr, ⊎-elim, _≢_}
 use mathlib.Core.Bool.{Bool}

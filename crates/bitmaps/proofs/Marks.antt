@@ -1,4 +1,4 @@
--- A mark set or clear: it reads so, and nothing else in the pool changes. Assumes nothing.
+-- A mark set or clear: it reads so, and nothing else in the pool changes.
 use mathlib.Core.Path.{_≡_, _∙_}
 use mathlib.Core.Logic.{_⊎_, inl, inr, ⊎-elim, _≢_}
 use mathlib.Core.Bool.{Bool}

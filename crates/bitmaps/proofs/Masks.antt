@@ -1,4 +1,4 @@
--- The code's masks set, clear and fill the bits that they should. Assumes nothing.
+-- The code's masks set, clear and fill the bits that they should.
 use mathlib.Core.Path.{_≡_, refl}
 use mathlib.Core.Bool.{Bool, true, false, cond, not}
 use Prim.Native.Nat.{ℕ, zero, suc, min, max, _+_, _-_, _*_, _/_, _%_, _^_, _<_}

@@ -1,4 +1,4 @@
--- A new map, written a byte at a time, and lent by its pool. Assumes nothing.
+-- A new map, written a byte at a time, and lent by its pool.
 use mathlib.Core.Path.{_≡_, sym, ap, _∙_}
 use mathlib.Core.Logic.{_⊎_, inl, inr}
 use mathlib.Core.List.{List, _++_, append-nil}

@@ -1,4 +1,4 @@
--- The search for the lowest clear mark, a way through its loops at a time, and what it finds. Assumes nothing.
+-- The search for the lowest clear mark, a way through its loops at a time, and what it finds.
 use mathlib.Core.Path.{_≡_, refl, sym, _∙_}
 use mathlib.Core.Logic.{_⊎_, inl, inr, ⊎-elim}
 use mathlib.Core.Bool.{Bool, true, false, not}

@@ -1,4 +1,4 @@
--- A part of a list replaced: its length, its elements, and what a part that was lent and came back leaves. Assumes nothing.
+-- A part of a list replaced: its length, its elements, and what a part that was lent and came back leaves.
 use mathlib.Core.Path.{_≡_, ap, _∙_}
 use mathlib.Core.Logic.{inl, inr, ⊎-elim}
 use mathlib.Core.List.{List, _++_}

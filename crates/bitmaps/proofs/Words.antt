@@ -1,4 +1,4 @@
--- The marks of a map of n bytes are the bits of the bytes' big-endian number; those of a map that is a word, of the word. Assumes nothing.
+-- The marks of a map of n bytes are the bits of the bytes' big-endian number; those of a map that is a word, of the word.
 use mathlib.Core.Path.{_≡_, refl, sym, ap, _∙_}
 use mathlib.Core.Bool.{Bool}
 use mathlib.Core.List.{List}

@@ -1,4 +1,4 @@
--- Chunk maps in a pool's bytes: which chunks of a page are taken. Assumes nothing.
+-- Chunk maps in a pool's bytes: which chunks of a page are taken.
 -- A map is named by the place `base` of its first byte in the pool. Mark i of it is bit 7 - i % 8 of byte base + i / 8, so that
 -- chunk 0 has the top bit of the first byte; a mark is set where its chunk is taken.
 use Prim.Native.Nat.{ℕ, zero, suc, _+_, _-_, _*_, _/_, _%_, _^_}

@@ -1,4 +1,4 @@
--- What one changed page contributes to the counts of a state, and how many marks a page has. Assumes nothing.
+-- What one changed page contributes to the counts of a state, and how many marks a page has.
 use mathlib.Core.Path.{_≡_, refl, sym, ap, _∙_}
 use mathlib.Core.Logic.{_⊎_, inl, inr, _≢_}
 use mathlib.Core.Bool.{Bool, true, false, _&&_, not, and-false}

@@ -1,4 +1,4 @@
--- A page is cut for a class whose list is empty: the bytes become the drawing of the next state. Assumes nothing.
+-- A page is cut for a class whose list is empty: the bytes become the drawing of the next state.
 use mathlib.Core.Path.{_≡_, refl, sym, ap, _∙_, subst, fun-ext}
 use mathlib.Core.Logic.{_⊎_, inl, inr, _≢_}
 use mathlib.Core.Bool.{Bool, true, false}

@@ -1,4 +1,4 @@
--- The last chunk of a page comes back and the page is released: the bytes become the next state's drawing over the bytes with the mark cleared. Assumes nothing.
+-- The last chunk of a page comes back and the page is released: the bytes become the next state's drawing over the bytes with the mark cleared.
 use mathlib.Core.Path.{_≡_, refl, sym, ap, _∙_}
 use mathlib.Core.Logic.{_⊎_, inl, inr, ⊎-elim, _≢_}
 use mathlib.Core.Bool.{Bool, true, false, not}

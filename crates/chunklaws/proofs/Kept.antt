@@ -1,4 +1,4 @@
--- A chunk comes back and others of its page stay taken: the bytes become the drawing of the next state. Assumes nothing.
+-- A chunk comes back and others of its page stay taken: the bytes become the drawing of the next state.
 use mathlib.Core.Path.{_≡_, refl, sym, _∙_, ap}
 use mathlib.Core.Logic.{_⊎_, inl, inr, ⊎-elim, _≢_}
 use mathlib.Core.Bool.{Bool, true, false, not}

@@ -1,4 +1,4 @@
--- The laws of `specs/Claim.antt`, proved. Assumes nothing.
+-- The laws of `specs/Claim.antt`, proved.
 use mathlib.Core.Path.{_≡_}
 use mathlib.Core.List.{List}
 use Prim.Native.Nat.{ℕ, _+_, _*_, _≤_}

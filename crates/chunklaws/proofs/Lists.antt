@@ -1,4 +1,4 @@
--- A page leaves the list of its class, or comes in front of it: the image shows the links so changed. Assumes nothing.
+-- A page leaves the list of its class, or comes in front of it: the image shows the links so changed.
 use mathlib.Core.Path.{_≡_, refl, sym, ap, _∙_}
 use mathlib.Core.Logic.{_⊎_, inl, inr, _≢_}
 use mathlib.Core.Bool.{Bool}

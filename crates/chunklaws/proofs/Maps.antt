@@ -1,4 +1,4 @@
--- A mark written, and a new map: painted bytes become those of the page with its new marks, wherever its map lies. Assumes nothing.
+-- A mark written, and a new map: painted bytes become those of the page with its new marks, wherever its map lies.
 use mathlib.Core.Path.{_≡_, refl, sym, ap, _∙_}
 use mathlib.Core.Logic.{_⊎_, inl, inr, ⊎-elim, _≢_}
 use mathlib.Core.Bool.{Bool, true, false}

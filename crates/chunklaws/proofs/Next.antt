@@ -1,4 +1,4 @@
--- From a state to the next: an image that shows the next links, then the counts, is the next state's image. Assumes nothing.
+-- From a state to the next: an image that shows the next links, then the counts, is the next state's image.
 use mathlib.Core.Path.{_≡_, refl, sym, ap, _∙_, subst}
 use mathlib.Core.Logic.{_⊎_, inl, inr, _≢_}
 use mathlib.Core.List.{List}

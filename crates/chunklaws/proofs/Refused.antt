@@ -1,4 +1,4 @@
--- A chunk asked for in vain: the class record alone changes. Assumes nothing.
+-- A chunk asked for in vain: the class record alone changes.
 use mathlib.Core.Path.{_≡_, refl, _∙_}
 use mathlib.Core.List.{List}
 use Prim.Native.Nat.{ℕ, _+_, _*_, _≤_}

@@ -1,4 +1,4 @@
--- The marks of a class page change, and its class's list and tally with them: what of the records stays, and what the counts are. Assumes nothing.
+-- The marks of a class page change, and its class's list and tally with them: what of the records stays, and what the counts are.
 use mathlib.Core.Path.{_≡_, refl, sym, ap, _∙_, subst, fun-ext}
 use mathlib.Core.Logic.{_⊎_, inl, inr, ⊎-elim, _≢_}
 use mathlib.Core.Bool.{Bool, true, false, not}

@@ -1,4 +1,4 @@
--- A chunk is handed out of the first page of its class list: the bytes become the drawing of the next state. Assumes nothing.
+-- A chunk is handed out of the first page of its class list: the bytes become the drawing of the next state.
 use mathlib.Core.Path.{_≡_, refl, sym, ap, _∙_}
 use mathlib.Core.Logic.{inl, ⊎-elim}
 use mathlib.Core.Bool.{Bool, true, false, not, cond}

@@ -1,4 +1,4 @@
--- Between two states: lists are changed first, and counts and maps are those of the state before. Assumes nothing.
+-- Between two states: lists are changed first, and counts and maps are those of the state before.
 use Prim.Native.Nat.{ℕ}
 use Rattle.base.specs.Functions.{upd}
 use Rattle.model.specs.State.{Page, State}

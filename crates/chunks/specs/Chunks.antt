@@ -1,4 +1,4 @@
--- The operations on the chunks of class pages, in the bytes of a pool of P pages. Assumes nothing.
+-- The operations on the chunks of class pages, in the bytes of a pool of P pages.
 -- Each changes the lists first, then the map, and the class record last. w is the number of words of a class record.
 use Prim.Native.Nat.{ℕ, _+_, _/_, _%_}
 use mathlib.Core.Bool.{Bool, true, false}

@@ -1,4 +1,4 @@
--- The nine classes' numbers, as the code has them. Assumes nothing.
+-- The nine classes' numbers, as the code has them.
 use mathlib.Core.Path.{_≡_, refl}
 use mathlib.Core.Logic.{_≢_}
 use mathlib.Core.Bool.{false, not}

@@ -1,4 +1,4 @@
--- The map of a class page and the record of a class, in the bytes of a pool of P pages. Assumes nothing.
+-- The map of a class page and the record of a class, in the bytes of a pool of P pages.
 -- w is the number of words of a class record.
 use Prim.Native.Nat.{ℕ, _+_, _-_, _*_, _%_, _^_}
 use mathlib.Core.List.{List}

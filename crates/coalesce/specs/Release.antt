@@ -1,4 +1,4 @@
--- Pages released in the bytes of a pool: they join the free runs beside them, and the whole becomes the head of the list. Assumes nothing.
+-- Pages released in the bytes of a pool: they join the free runs beside them, and the whole becomes the head of the list.
 use Prim.Native.Nat.{ℕ, _+_, _-_}
 use mathlib.Core.List.{List}
 use lib.Dec.{eqb, ltb}

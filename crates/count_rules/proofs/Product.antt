@@ -1,4 +1,4 @@
--- The product that is compared with total fits a word. Assumes nothing.
+-- The product that is compared with total fits a word.
 use mathlib.Core.Path.{_≡_}
 use Prim.Native.Nat.{ℕ, _*_, _≤_, _<_}
 use native.Mathlib.Omega.{arith}

@@ -1,4 +1,4 @@
--- One call on the bytes of a pool: demands 1 and 2. Assumes nothing.
+-- One call on the bytes of a pool: demands 1 and 2.
 use mathlib.Core.Path.{_≡_, refl, sym, ap, _∙_, subst}
 use mathlib.Core.Logic.{_⊎_, inl, inr, _≢_, _↔_}
 use mathlib.Core.Bool.{Bool, true, false, cond, _||_}

@@ -1,4 +1,4 @@
--- Demand 3 on the bytes of a pool, and the three demands together. Assumes nothing.
+-- Demand 3 on the bytes of a pool, and the three demands together.
 use mathlib.Core.Path.{_≡_, refl, sym, ap, _∙_, subst}
 use mathlib.Core.Logic.{_≢_, _↔_}
 use mathlib.Core.List.{List, [], _∷_}

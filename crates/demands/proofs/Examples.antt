@@ -1,4 +1,4 @@
--- The starred examples on bytes, by the demands and the model's examples. Assumes nothing.
+-- The starred examples on bytes, by the demands and the model's examples.
 use mathlib.Core.Path.{_≡_, refl, sym, ap, _∙_}
 use mathlib.Core.Bool.{Bool, true, _&&_}
 use mathlib.Core.List.{List, [], _∷_, map}

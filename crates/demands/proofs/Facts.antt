@@ -1,4 +1,4 @@
--- What reading the bytes of a sound pool gives, in the words of its state. Assumes nothing.
+-- What reading the bytes of a sound pool gives, in the words of its state.
 use mathlib.Core.Path.{_≡_, refl, sym, ap, _∙_, subst}
 use mathlib.Core.Logic.{_⊎_, inl, inr, _≢_}
 use mathlib.Core.Bool.{Bool, true, false, not}

@@ -1,4 +1,4 @@
--- Free on the bytes of a sound pool does what the model does, given what each operation does. Assumes nothing.
+-- Free on the bytes of a sound pool does what the model does, given what each operation does.
 use mathlib.Core.Path.{_≡_, refl, sym}
 use mathlib.Core.Logic.{_⊎_, inl, inr, _≢_}
 use mathlib.Core.Bool.{Bool, true, false, cond}

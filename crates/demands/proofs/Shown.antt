@@ -1,4 +1,4 @@
--- A sound pool's records show what its state shows. Assumes nothing.
+-- A sound pool's records show what its state shows.
 use mathlib.Core.Path.{_≡_, refl, sym, ap, _∙_, fun-ext}
 use mathlib.Core.Logic.{_⊎_, inl, inr, _≢_}
 use mathlib.Core.Bool.{Bool, true, false, _&&_, and-false}

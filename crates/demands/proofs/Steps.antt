@@ -1,4 +1,4 @@
--- The code's steps on the bytes of a sound pool give the answer and the slice that the calls promise. Assumes nothing.
+-- The code's steps on the bytes of a sound pool give the answer and the slice that the calls promise.
 use mathlib.Core.Path.{_≡_, sym, ap, _∙_}
 use mathlib.Core.Logic.{_⊎_, inl, inr}
 use mathlib.Core.Bool.{Bool, true, false, cond, not}

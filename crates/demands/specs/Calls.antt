@@ -1,4 +1,4 @@
--- What alloc (document 01: take) and free (give) answer and leave, for every content of the slice. Assumes nothing.
+-- What alloc (document 01: take) and free (give) answer and leave, for every content of the slice.
 use Prim.Native.Nat.{ℕ, _/_, _%_}
 use mathlib.Core.Bool.{false, cond}
 use mathlib.Core.List.{List}

@@ -1,5 +1,5 @@
 -- What a pool shows in its records: free runs and class pages in the page records, chunk maps where they are kept, used and total in the
--- class records. Assumes nothing.
+-- class records.
 use Prim.Native.Nat.{ℕ}
 use mathlib.Core.List.{List}
 use lib.Dec.{ltb}

@@ -1,4 +1,4 @@
--- The drawing of a state shows the state's fields. Assumes nothing.
+-- The drawing of a state shows the state's fields.
 use mathlib.Core.Path.{_≡_, sym, ap, _∙_, fun-ext}
 use mathlib.Core.Logic.{_⊎_, inl, inr}
 use mathlib.Core.Bool.{Bool, true, false}

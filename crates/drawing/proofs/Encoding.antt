@@ -1,4 +1,4 @@
--- What bytes give, sound or not: marks and map fields that fit each other, tallies of 32 bits, maps in pages that are their own marks. Assumes nothing.
+-- What bytes give, sound or not: marks and map fields that fit each other, tallies of 32 bits, maps in pages that are their own marks.
 use mathlib.Core.Path.{_≡_, refl, sym, ap, _∙_}
 use mathlib.Core.Logic.{_⊎_, inl, inr}
 use mathlib.Core.Bool.{Bool, true, false, false≢true}

@@ -1,4 +1,4 @@
--- Format draws a fresh pool. Assumes nothing.
+-- Format draws a fresh pool.
 use mathlib.Core.Path.{_≡_, refl, sym, ap, _∙_}
 use mathlib.Core.Logic.{_⊎_, inl, inr, _≢_}
 use mathlib.Core.Bool.{Bool, true, false, cond, and-false}

@@ -1,4 +1,4 @@
--- The laws of `specs/Claim.antt`, proved. Assumes nothing.
+-- The laws of `specs/Claim.antt`, proved.
 use mathlib.Core.Path.{_≡_, refl, sym, ap, _∙_}
 use mathlib.Core.Logic.{_↔_}
 use mathlib.Core.Bool.{Bool, true, false}

@@ -1,4 +1,4 @@
--- The maps that lie in pages, drawn: which bytes they write, and what. Assumes nothing.
+-- The maps that lie in pages, drawn: which bytes they write, and what.
 use mathlib.Core.Path.{_≡_, refl, sym, ap, _∙_}
 use mathlib.Core.Logic.{_⊎_, inl, inr, ⊎-elim}
 use mathlib.Core.Bool.{Bool, true, false}

@@ -1,4 +1,4 @@
--- Pools with the same records show the same fields. Assumes nothing.
+-- Pools with the same records show the same fields.
 use mathlib.Core.Path.{_≡_, sym, ap, _∙_, fun-ext}
 use mathlib.Core.Logic.{_⊎_, inl, inr, ⊎-elim}
 use mathlib.Core.List.{List}

@@ -1,4 +1,4 @@
--- What is painted or drawn over a painting: the later stands, but for the maps in pages that the earlier wrote. Assumes nothing.
+-- What is painted or drawn over a painting: the later stands, but for the maps in pages that the earlier wrote.
 use mathlib.Core.Path.{_≡_, refl, sym, ap, _∙_}
 use mathlib.Core.Logic.{_⊎_, inl, inr, _≢_}
 use mathlib.Core.Bool.{false}

@@ -1,4 +1,4 @@
--- Records written back as they stand change nothing, and painting leaves bytes. Assumes nothing.
+-- Records written back as they stand change nothing, and painting leaves bytes.
 use mathlib.Core.Path.{_≡_, refl, sym}
 use mathlib.Core.List.{List}
 use Prim.Native.Nat.{ℕ, zero, suc, _-_, _%_, _≤_, _<_}

@@ -1,4 +1,4 @@
--- The bytes of a state, drawn over other bytes: header, class records, page records, and the maps that lie in pages. Assumes nothing.
+-- The bytes of a state, drawn over other bytes: header, class records, page records, and the maps that lie in pages.
 use Prim.Native.Nat.{ℕ, zero, suc, _+_, _-_, _*_, _/_, _%_}
 use mathlib.Core.Bool.{Bool, false}
 use mathlib.Core.List.{List, [], _∷_}

@@ -1,4 +1,4 @@
--- What of a pool is not a caller's: its length, header, records and maps. Assumes nothing.
+-- What of a pool is not a caller's: its length, header, records and maps.
 use mathlib.Core.Path.{_≡_}
 use mathlib.Core.List.{List}
 use Prim.Native.Nat.{ℕ, _+_, _*_, _<_}

@@ -1,4 +1,4 @@
--- The steps of the two loops: pages filled, and first fit. Assumes nothing.
+-- The steps of the two loops: pages filled, and first fit.
 use mathlib.Core.Path.{_≡_, refl, _∙_}
 use mathlib.Core.List.{List}
 use Prim.Native.Nat.{ℕ, zero, suc, _+_, _-_, _≤_, _<_}

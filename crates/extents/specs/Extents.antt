@@ -1,4 +1,4 @@
--- The free runs in the bytes of a pool: first fit, and pages taken from the front of a run. Assumes nothing.
+-- The free runs in the bytes of a pool: first fit, and pages taken from the front of a run.
 -- Page numbers and counts have 16 bits: sums wrap, in the code and here alike, and within a pool none does.
 use Prim.Native.Nat.{ℕ, zero, suc, _+_, _-_, _%_}
 use mathlib.Core.List.{List}

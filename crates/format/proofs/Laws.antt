@@ -1,4 +1,4 @@
--- The stores of format paint one free run, and the three cases of a length. Assumes nothing.
+-- The stores of format paint one free run, and the three cases of a length.
 use mathlib.Core.Path.{_≡_, refl}
 use mathlib.Core.List.{List}
 use Prim.Native.Nat.{ℕ, _-_, _≤_, _<_}

@@ -1,4 +1,4 @@
--- The steps of the loop that sets words. Assumes nothing.
+-- The steps of the loop that sets words.
 use mathlib.Core.Path.{_≡_, refl, _∙_}
 use mathlib.Core.List.{List}
 use Prim.Native.Nat.{ℕ, _+_, _*_, _≤_}

@@ -1,4 +1,4 @@
--- Format: what it answers, by the slice's length alone, and what it leaves. Assumes nothing.
+-- Format: what it answers, by the slice's length alone, and what it leaves.
 use Prim.Native.Nat.{ℕ, _+_, _-_, _*_}
 use mathlib.Core.List.{List}
 use lib.Dec.{leb, ltb}

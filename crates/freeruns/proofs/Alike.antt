@@ -1,4 +1,4 @@
--- Pages that are no class pages count nothing in classes and have no map: what a state shows of them is the same whatever they are. Assumes nothing.
+-- Pages that are no class pages count nothing in classes and have no map: what a state shows of them is the same whatever they are.
 use mathlib.Core.Path.{_≡_, refl, sym, ap, _∙_}
 use mathlib.Core.Logic.{_⊎_, inl, inr}
 use mathlib.Core.Bool.{Bool, true, false, and-false}

@@ -1,4 +1,4 @@
--- How many pages are free after k pages change. Assumes nothing.
+-- How many pages are free after k pages change.
 use mathlib.Core.Path.{_≡_, refl, ap}
 use mathlib.Core.Logic.{_⊎_, inl, inr}
 use mathlib.Core.Bool.{Bool, true, false}

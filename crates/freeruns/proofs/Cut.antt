@@ -1,4 +1,4 @@
--- The front pages of a free run leave the list: what the image shows then. Assumes nothing.
+-- The front pages of a free run leave the list: what the image shows then.
 use mathlib.Core.Path.{_≡_, refl, sym, ap, _∙_, subst}
 use mathlib.Core.Logic.{_⊎_, inl, inr, _≢_}
 use mathlib.Core.Bool.{Bool, true, false}

@@ -1,4 +1,4 @@
--- On the drawing of a well-formed state the operations on free runs draw the model's next state. Assumes nothing.
+-- On the drawing of a well-formed state the operations on free runs draw the model's next state.
 use mathlib.Core.Path.{_≡_, refl, sym, ap, _∙_}
 use mathlib.Core.Logic.{_⊎_, inl, inr, ⊎-elim, _≢_}
 use mathlib.Core.Bool.{true, false}

@@ -1,4 +1,4 @@
--- First fit on the bytes finds the first run of the list that is long enough. Assumes nothing.
+-- First fit on the bytes finds the first run of the list that is long enough.
 use mathlib.Core.Path.{_≡_, refl, sym, ap, _∙_}
 use mathlib.Core.Logic.{inl, inr, _≢_}
 use mathlib.Core.Bool.{Bool, true, false, cond}

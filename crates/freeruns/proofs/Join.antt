@@ -1,4 +1,4 @@
--- Pages join the free runs on both sides, and the whole becomes the head: what the image shows then. Assumes nothing.
+-- Pages join the free runs on both sides, and the whole becomes the head: what the image shows then.
 use mathlib.Core.Path.{_≡_, refl, sym, ap, _∙_}
 use mathlib.Core.Logic.{_⊎_, inl, inr, ⊎-elim, _≢_}
 use mathlib.Core.Bool.{Bool, true, false, not}

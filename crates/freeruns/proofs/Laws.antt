@@ -1,4 +1,4 @@
--- The operations on free runs, on the bytes of an image that shows them. Assumes nothing.
+-- The operations on free runs, on the bytes of an image that shows them.
 use mathlib.Core.Path.{_≡_, refl, sym, _∙_}
 use mathlib.Core.Logic.{_⊎_, inl, inr, _≢_}
 use mathlib.Core.Bool.{Bool, true, false}

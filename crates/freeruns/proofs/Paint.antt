@@ -1,4 +1,4 @@
--- What the operations on free runs do to a painted image. Assumes nothing.
+-- What the operations on free runs do to a painted image.
 use mathlib.Core.Path.{_≡_, refl, sym, _∙_}
 use mathlib.Core.Logic.{_⊎_, inl, inr, _≢_}
 use mathlib.Core.List.{List}

@@ -1,4 +1,4 @@
--- An image shows a list of free runs: run by run, and page by page as `shows` says it. Assumes nothing.
+-- An image shows a list of free runs: run by run, and page by page as `shows` says it.
 use mathlib.Core.Path.{_≡_, refl, sym, ap, _∙_, subst}
 use mathlib.Core.Logic.{_⊎_, inl, inr, _≢_}
 use mathlib.Core.Bool.{Bool, true, false}

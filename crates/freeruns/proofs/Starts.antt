@@ -1,4 +1,4 @@
--- The first pages of the free runs when runs leave the list and when one is cut. Assumes nothing.
+-- The first pages of the free runs when runs leave the list and when one is cut.
 use mathlib.Core.Path.{_≡_, refl, ap}
 use mathlib.Core.Logic.{inl, inr}
 use mathlib.Core.Bool.{Bool, true, false, cond, _&&_}

@@ -1,4 +1,4 @@
--- A run leaves the list of free runs, another takes its place, one comes in front, and records of pages off the list are written. Assumes nothing.
+-- A run leaves the list of free runs, another takes its place, one comes in front, and records of pages off the list are written.
 use mathlib.Core.Path.{_≡_, refl, sym, ap, _∙_, subst}
 use mathlib.Core.Logic.{_⊎_, inl, inr, _≢_}
 use mathlib.Core.Bool.{Bool, true}

@@ -1,4 +1,4 @@
--- The operations of `extents` on an image. Assumes nothing.
+-- The operations of `extents` on an image.
 use mathlib.Core.Option.{Option, none, some}
 use Prim.Native.Nat.{ℕ, _+_, _-_}
 use lib.Dec.{eqb, ltb}

@@ -1,4 +1,4 @@
--- What the laws ask of the pages, free runs and class lists that an image shows. Assumes nothing.
+-- What the laws ask of the pages, free runs and class lists that an image shows.
 use mathlib.Core.Path.{_≡_}
 use mathlib.Core.Bool.{true, false}
 use mathlib.Core.List.{List}

@@ -1,4 +1,4 @@
--- An image whose fields are numbers of their widths, and that its changes keep it so. Assumes nothing.
+-- An image whose fields are numbers of their widths, and that its changes keep it so.
 use Prim.Native.Nat.{ℕ, _-_, _≤_, _<_}
 use native.Mathlib.Omega.{arith}
 use Rattle.base.proofs.Functions.{upd-keeps}

@@ -1,4 +1,4 @@
--- What each store does to a painted image, and what a painted image shows. Assumes nothing.
+-- What each store does to a painted image, and what a painted image shows.
 use mathlib.Core.Path.{_≡_, sym, ap, _∙_}
 use mathlib.Core.Logic.{_⊎_, inl, inr, _≢_}
 use mathlib.Core.List.{List}

@@ -1,4 +1,4 @@
--- No two records share a word, whatever the width of a class record. Assumes nothing.
+-- No two records share a word, whatever the width of a class record.
 use mathlib.Core.Logic.{_⊎_, ⊎-elim, _≢_}
 use Prim.Native.Nat.{ℕ, _+_, _*_, _≤_, _<_}
 use native.Mathlib.Omega.{arith}

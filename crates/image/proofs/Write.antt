@@ -1,4 +1,4 @@
--- Strided writes of words. Assumes nothing.
+-- Strided writes of words.
 use mathlib.Core.Path.{_≡_, refl, sym, _∙_}
 use mathlib.Core.Logic.{_⊎_, inl, inr, _≢_}
 use mathlib.Core.List.{List}

@@ -1,4 +1,4 @@
--- The records of a pool as functions, one for each kind of record, and the bytes that they make. Assumes nothing.
+-- The records of a pool as functions, one for each kind of record, and the bytes that they make.
 -- Everything above speaks of an image; words and bytes stay in this file's `paint`.
 use mathlib.Core.Path.{_≡_}
 use mathlib.Core.List.{List}

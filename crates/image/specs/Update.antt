@@ -1,4 +1,4 @@
--- An image with one field changed. Assumes nothing.
+-- An image with one field changed.
 use Prim.Native.Nat.{ℕ}
 use Rattle.base.specs.Functions.{upd}
 use Rattle.records.specs.declared.ClassRecord.{ClassRecord}

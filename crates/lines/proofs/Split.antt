@@ -1,4 +1,4 @@
--- Where the first line of an input ends. Assumes nothing.
+-- Where the first line of an input ends.
 use mathlib.Core.Path.{_≡_, _∙_, ap}
 use mathlib.Core.Logic.{_⊎_, inl, inr, _≢_}
 use mathlib.Core.List.{List, [], _∷_}

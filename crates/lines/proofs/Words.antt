@@ -1,4 +1,4 @@
--- What a line asks for, from its first five bytes. Assumes nothing.
+-- What a line asks for, from its first five bytes.
 use mathlib.Core.Path.{_≡_, refl, sym, _∙_, ap}
 use mathlib.Core.Bool.{Bool, true, false}
 use mathlib.Core.List.{List}

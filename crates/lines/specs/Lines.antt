@@ -1,4 +1,4 @@
--- A script, line by line: the lines of an input, and what a line asks for. Assumes nothing.
+-- A script, line by line: the lines of an input, and what a line asks for.
 use Prim.Native.Nat.{ℕ}
 use mathlib.Core.Bool.{Bool, cond}
 use mathlib.Core.List.{List, [], _∷_}

@@ -1,4 +1,4 @@
--- A walk with the counter's number of pages to come is the rule's. Assumes nothing.
+-- A walk with the counter's number of pages to come is the rule's.
 use mathlib.Core.Path.{_≡_, _∙_}
 use mathlib.Core.Bool.{Bool}
 use mathlib.Core.List.{List}

@@ -1,4 +1,4 @@
--- Unlink, push front and replace in place change one list and leave the nine others, and nothing but next, previous and first pages. Assumes nothing.
+-- Unlink, push front and replace in place change one list and leave the nine others, and nothing but next, previous and first pages.
 use mathlib.Core.Path.{_≡_, refl, sym, ap, _∙_}
 use mathlib.Core.Logic.{_⊎_, inl, inr, _≢_}
 use mathlib.Core.List.{List, [], _∷_}

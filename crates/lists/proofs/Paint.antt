@@ -1,4 +1,4 @@
--- What the changes of a list do to a painted image. Assumes nothing.
+-- What the changes of a list do to a painted image.
 use mathlib.Core.Path.{_≡_, refl, sym, ap}
 use mathlib.Core.Logic.{_⊎_, inl, inr, _≢_}
 use mathlib.Core.List.{List}

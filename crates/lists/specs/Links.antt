@@ -1,4 +1,4 @@
--- The ten lists in the bytes of a pool: list 0 is the list of free runs, list 1 + c the list of class c. Assumes nothing.
+-- The ten lists in the bytes of a pool: list 0 is the list of free runs, list 1 + c the list of class c.
 use Prim.Native.Nat.{ℕ, _-_}
 use mathlib.Core.List.{List}
 use lib.Dec.{eqb}

@@ -1,4 +1,4 @@
--- The ten lists in an image. The head of list ℓ is the node 65535 + ℓ, past every page, whose next is the list's first page. Assumes nothing.
+-- The ten lists in an image. The head of list ℓ is the node 65535 + ℓ, past every page, whose next is the list's first page.
 use Prim.Native.Nat.{ℕ, _+_, _-_}
 use mathlib.Core.List.{List}
 use lib.Dec.{eqb, ltb}

@@ -4,6 +4,8 @@ use mathlib.Core.Option.{Option, none, some}
 use mathlib.Core.List.{List, [], _∷_}
 use Prim.Native.Nat.{ℕ, suc, _+_, _*_, _/_, _%_}
 use lib.Dec.{eqb, ltb}
+use Rattle.answers.specs.Outcome.{numberOf}
+use Rattle.answers.specs.declared.Refusal.the-variants.{NoRoom, Outside, NotTaken, NotAStart}
 use Rattle.base.specs.Functions.{upd, fill}
 use Rattle.base.specs.Lists.{keep}
 use Rattle.base.specs.Links.{others}
@@ -27,16 +29,16 @@ pub record Reply : Type 0 where
 -- ---- the refusals that a call on a state can answer
 
 unfoldable pub noRoom : ℕ
-noRoom = 4
+noRoom = numberOf NoRoom
 
 unfoldable pub outside : ℕ
-outside = 5
+outside = numberOf Outside
 
 unfoldable pub notTaken : ℕ
-notTaken = 6
+notTaken = numberOf NotTaken
 
 unfoldable pub notAStart : ℕ
-notAStart = 7
+notAStart = numberOf NotAStart
 
 unfoldable pub refuse : State → ℕ → Reply
 refuse s k = record { answer = no k; after = s }

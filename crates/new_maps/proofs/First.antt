@@ -1,4 +1,4 @@
--- The first word of a new map has all its marks. Assumes nothing.
+-- The first word of a new map has all its marks.
 use mathlib.Core.Path.{_≡_, refl, sym, ap, _∙_}
 use mathlib.Core.Bool.{not}
 use mathlib.Core.List.{List, _++_}

@@ -1,4 +1,4 @@
--- The value of digits, capped. Assumes nothing.
+-- The value of digits, capped.
 use mathlib.Core.Path.{_≡_, refl, _∙_}
 use mathlib.Core.Bool.{Bool, true, false}
 use mathlib.Core.List.{List}

@@ -1,4 +1,4 @@
--- Decimal numbers in a script: which bytes are one, and its value. Assumes nothing.
+-- Decimal numbers in a script: which bytes are one, and its value.
 use Prim.Native.Nat.{ℕ, zero, suc, _+_, _-_, _*_}
 use mathlib.Core.Bool.{Bool, true, false}
 use mathlib.Core.List.{List, [], _∷_}

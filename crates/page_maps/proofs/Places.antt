@@ -1,4 +1,4 @@
--- Where a map begins, by two numbers chosen by the class. Assumes nothing.
+-- Where a map begins, by two numbers chosen by the class.
 use mathlib.Core.Path.{_≡_}
 use mathlib.Core.Logic.{_⊎_, inl, inr}
 use Prim.Native.Nat.{ℕ, _+_, _*_, _≤_, _<_}

@@ -1,4 +1,4 @@
--- The ones of a word are the set marks of its map, and maps are counted piece by piece. Assumes nothing.
+-- The ones of a word are the set marks of its map, and maps are counted piece by piece.
 use mathlib.Core.Path.{_≡_, refl, sym, ap, _∙_}
 use mathlib.Core.Logic.{_≢_}
 use mathlib.Core.Bool.{Bool, true, false}

@@ -1,4 +1,4 @@
--- The number of set marks of a class page says whether one is clear, whether a caller holds a chunk, and how many. Assumes nothing.
+-- The number of set marks of a class page says whether one is clear, whether a caller holds a chunk, and how many.
 use mathlib.Core.Path.{_≡_, refl, ap, _∙_}
 use mathlib.Core.Bool.{Bool, true, false, _&&_, not}
 use Prim.Native.Nat.{ℕ, zero, suc, _+_, _-_, _≤_, _<_}

@@ -1,4 +1,4 @@
--- How many bits the map of a class has. Assumes nothing.
+-- How many bits the map of a class has.
 use Prim.Native.Nat.{ℕ}
 use lib.Dec.{ltb}
 use Rattle.base.specs.Tests.{pick}

@@ -1,4 +1,4 @@
--- Powers of ten, and how many digits a number has. Assumes nothing.
+-- Powers of ten, and how many digits a number has.
 use mathlib.Core.Path.{_≡_, refl}
 use mathlib.Core.Bool.{Bool, true, false}
 use Prim.Native.Nat.{ℕ, zero, suc, _+_, _*_, _≤_, _<_}

@@ -1,4 +1,4 @@
--- Text in ASCII: numbers in decimal, lines, and text written into a slice. Assumes nothing.
+-- Text in ASCII: numbers in decimal, lines, and text written into a slice.
 use Prim.Native.Nat.{ℕ, zero, suc, _+_, _*_, _/_, _%_}
 use mathlib.Core.Path.{_≡_}
 use mathlib.Core.List.{List, [], _∷_, _++_}

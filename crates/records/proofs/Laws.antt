@@ -1,4 +1,4 @@
--- Packing and unpacking undo each other. Assumes nothing.
+-- Packing and unpacking undo each other.
 use mathlib.Core.Path.{_≡_}
 use Prim.Native.Nat.{ℕ, _+_, _*_, _/_, _%_, _<_}
 use native.Mathlib.Omega.{arith}

@@ -1,4 +1,4 @@
--- A class record in two words. Assumes nothing.
+-- A class record in two words.
 use Prim.Native.Nat.{ℕ, _+_, _*_, _/_, _%_}
 use mathlib.Core.List.{List}
 use Rattle.words.specs.Word.{word, setWord}

@@ -1,4 +1,4 @@
--- The header in one word. Assumes nothing.
+-- The header in one word.
 use Prim.Native.Nat.{ℕ, _+_, _*_, _/_, _%_}
 use mathlib.Core.List.{List}
 use Rattle.words.specs.Word.{word, setWord}

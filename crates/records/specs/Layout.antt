@@ -1,4 +1,4 @@
--- Where the records of a pool lie: header, nine class records, page records, pages, tail. Assumes nothing.
+-- Where the records of a pool lie: header, nine class records, page records, pages, tail.
 -- w is the number of 64-bit words of a class record, 2 in edition 1.
 use Prim.Native.Nat.{ℕ, _+_, _-_, _*_, _/_}
 

@@ -1,4 +1,4 @@
--- A page record in two words: the chunk map, and the rest, here called its links. Assumes nothing.
+-- A page record in two words: the chunk map, and the rest, here called its links.
 use Prim.Native.Nat.{ℕ, _+_, _*_, _/_, _%_}
 use mathlib.Core.List.{List}
 use Rattle.words.specs.Word.{word, setWord}

@@ -1,4 +1,4 @@
--- What the code prints is the line of the outcome. Assumes nothing.
+-- What the code prints is the line of the outcome.
 use mathlib.Core.Path.{_≡_, refl}
 use mathlib.Core.Bool.{false}
 use mathlib.Core.List.{List}

@@ -1,4 +1,4 @@
--- The lines that a script program prints for answers. Assumes nothing.
+-- The lines that a script program prints for answers.
 use Prim.Native.Nat.{ℕ}
 use mathlib.Core.List.{List, [], _∷_}
 use lib.Dec.{eqb}

@@ -1,4 +1,4 @@
--- The rules and the state that is read depend only on the fields of the n pages and the nine classes, marks on class pages alone. Assumes nothing.
+-- The rules and the state that is read depend only on the fields of the n pages and the nine classes, marks on class pages alone.
 use mathlib.Core.Path.{_≡_, refl, sym, ap, _∙_, fun-ext}
 use mathlib.Core.Logic.{_⊎_, inl, inr}
 use mathlib.Core.Bool.{Bool, true}

@@ -1,4 +1,4 @@
--- Sound fields are those that their state determines. Assumes nothing.
+-- Sound fields are those that their state determines.
 use mathlib.Core.Path.{_≡_, refl, sym, ap, _∙_, subst}
 use mathlib.Core.Logic.{_⊎_, inl, inr, _≢_}
 use mathlib.Core.Bool.{true, false}

@@ -1,4 +1,4 @@
--- The fields of a well-formed state of at most 4,096 pages are numbers of their widths. Assumes nothing.
+-- The fields of a well-formed state of at most 4,096 pages are numbers of their widths.
 use mathlib.Core.Path.{_≡_, refl, sym, ap, subst}
 use mathlib.Core.Logic.{_⊎_, inl, inr, _≢_}
 use mathlib.Core.Bool.{_&&_}

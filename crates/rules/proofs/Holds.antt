@@ -1,4 +1,4 @@
--- The fields of a well-formed state pass rules 2 to 6, and the state is read back from them. Assumes nothing.
+-- The fields of a well-formed state pass rules 2 to 6, and the state is read back from them.
 use mathlib.Core.Path.{_≡_, refl, sym, ap, _∙_, subst, fun-ext}
 use mathlib.Core.Logic.{_⊎_, inl, inr}
 use mathlib.Core.List.{[]}

@@ -1,4 +1,4 @@
--- The walk of rules 3 and 4 holds exactly where next and previous show a list that holds each page that passes the test once. Assumes nothing.
+-- The walk of rules 3 and 4 holds exactly where next and previous show a list that holds each page that passes the test once.
 use mathlib.Core.Path.{_≡_, refl, sym, ap, _∙_, subst}
 use mathlib.Core.Logic.{_⊎_, inl, inr, _≢_}
 use mathlib.Core.Bool.{Bool, true, false}

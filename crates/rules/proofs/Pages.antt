@@ -1,4 +1,4 @@
--- The pages that the fields show, by kind. Assumes nothing.
+-- The pages that the fields show, by kind.
 use mathlib.Core.Path.{_≡_, refl, sym, ap, _∙_}
 use mathlib.Core.Logic.{_⊎_, inl, inr, _≢_}
 use mathlib.Core.Bool.{Bool, true, false, _&&_, false≢true}

@@ -1,4 +1,4 @@
--- Rule 1 as a test and in plain form. Assumes nothing.
+-- Rule 1 as a test and in plain form.
 use mathlib.Core.Path.{_≡_}
 use mathlib.Core.Logic.{_↔_}
 use mathlib.Core.Bool.{true}

@@ -1,4 +1,4 @@
--- Rule 2 as a test and in plain form. Assumes nothing.
+-- Rule 2 as a test and in plain form.
 use mathlib.Core.Path.{_≡_, refl, sym, ap, _∙_, subst}
 use mathlib.Core.Logic.{_⊎_, inl, inr, _≢_, _↔_}
 use mathlib.Core.Bool.{Bool, true, false, not, false≢true}

@@ -1,4 +1,4 @@
--- Rules 3 to 6 as tests and in plain form. Assumes nothing.
+-- Rules 3 to 6 as tests and in plain form.
 use mathlib.Core.Path.{_≡_, refl, sym, ap, _∙_}
 use mathlib.Core.Logic.{_↔_}
 use mathlib.Core.Bool.{Bool, true, false, _&&_, and-assoc}

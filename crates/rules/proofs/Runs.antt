@@ -1,4 +1,4 @@
--- The free runs of a well-formed state by their first page and by their end. Assumes nothing.
+-- The free runs of a well-formed state by their first page and by their end.
 use mathlib.Core.Path.{_≡_, refl, sym, ap, subst}
 use mathlib.Core.Logic.{inl, inr, _≢_}
 use mathlib.Core.Bool.{Bool}

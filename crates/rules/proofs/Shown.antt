@@ -1,4 +1,4 @@
--- The fields of a well-formed state: the pages are read back, and each page has the fields of its kind. Assumes nothing.
+-- The fields of a well-formed state: the pages are read back, and each page has the fields of its kind.
 use mathlib.Core.Path.{_≡_, refl, sym, ap, ap₂, _∙_}
 use mathlib.Core.Logic.{_⊎_, inl, inr, _≢_}
 use mathlib.Core.Bool.{Bool, false}

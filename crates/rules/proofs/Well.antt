@@ -1,4 +1,4 @@
--- Fields that pass rules 2 to 5 show a well-formed state. Assumes nothing.
+-- Fields that pass rules 2 to 5 show a well-formed state.
 use mathlib.Core.Path.{_≡_, refl, sym, ap, _∙_}
 use mathlib.Core.Logic.{_⊎_, inl, inr}
 use mathlib.Core.Bool.{true}

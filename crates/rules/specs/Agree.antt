@@ -1,4 +1,4 @@
--- When two pools show the same fields, when fields are sound, and what fields read from bytes keep to. Assumes nothing.
+-- When two pools show the same fields, when fields are sound, and what fields read from bytes keep to.
 use mathlib.Core.Path.{_≡_}
 use mathlib.Core.Bool.{true, false}
 use Prim.Native.Nat.{ℕ, _-_, _%_, _^_, _≤_, _<_}

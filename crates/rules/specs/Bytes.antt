@@ -1,4 +1,4 @@
--- The fields in the bytes of a pool; rule 1; the first rule that does not hold; the state that the bytes show. Assumes nothing.
+-- The fields in the bytes of a pool; rule 1; the first rule that does not hold; the state that the bytes show.
 use Prim.Native.Nat.{ℕ, _+_, _-_, _*_, _%_}
 use mathlib.Core.Bool.{Bool, false}
 use mathlib.Core.List.{List, [], _∷_}

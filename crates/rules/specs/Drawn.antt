@@ -1,4 +1,4 @@
--- The fields that a state determines. Assumes nothing.
+-- The fields that a state determines.
 use Prim.Native.Nat.{ℕ, _+_, _-_}
 use mathlib.Core.List.{List, [], _∷_}
 use lib.Dec.{eqb, ltb}

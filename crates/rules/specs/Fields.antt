@@ -1,4 +1,4 @@
--- What the records of a pool show, field by field. Rules 2 to 6 speak of it and see no byte. Assumes nothing.
+-- What the records of a pool show, field by field. Rules 2 to 6 speak of it and see no byte.
 use Prim.Native.Nat.{ℕ, zero, suc}
 use mathlib.Core.Bool.{Bool}
 use lib.Dec.{ltb}

@@ -1,4 +1,4 @@
--- The state that the fields of n pages show. Assumes nothing.
+-- The state that the fields of n pages show.
 use Prim.Native.Nat.{ℕ, zero, suc}
 use mathlib.Core.Bool.{Bool, false}
 use mathlib.Core.List.{List, [], _∷_}

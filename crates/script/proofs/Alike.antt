@@ -1,4 +1,4 @@
--- On sound bytes a script is served as on the state that they show. Assumes nothing.
+-- On sound bytes a script is served as on the state that they show.
 use mathlib.Core.Path.{_≡_, refl, sym, _∙_, ap}
 use mathlib.Core.List.{List, [], _∷_}
 use mathlib.Core.Option.{Option, none, some}

@@ -1,4 +1,4 @@
--- A number that is printed reads back. Assumes nothing.
+-- A number that is printed reads back.
 use mathlib.Core.Path.{_≡_, refl, sym, _∙_, ap}
 use mathlib.Core.Logic.{_⊎_, inl, inr}
 use mathlib.Core.Bool.{Bool, true, false}

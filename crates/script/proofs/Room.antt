@@ -1,4 +1,4 @@
--- How long the lines of a printout are. Assumes nothing.
+-- How long the lines of a printout are.
 use mathlib.Core.Path.{_≡_, refl, sym, _∙_}
 use mathlib.Core.Bool.{Bool, true, false, cond}
 use mathlib.Core.List.{List, [], _∷_}

@@ -1,4 +1,4 @@
--- A script served line by line. Assumes nothing.
+-- A script served line by line.
 use mathlib.Core.Path.{_≡_, refl, sym, _∙_}
 use mathlib.Core.List.{List, [], _∷_, _++_}
 use mathlib.Core.Option.{Option, none, some}

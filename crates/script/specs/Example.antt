@@ -1,4 +1,4 @@
--- Document 01's whole case. Assumes nothing.
+-- Document 01's whole case.
 use mathlib.Core.Path.{_≡_}
 use Prim.Native.Nat.{ℕ}
 use mathlib.Core.List.{List, [], _∷_, _++_}

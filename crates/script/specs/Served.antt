@@ -1,4 +1,4 @@
--- The same on the bytes of a pool, in the order of the code. Assumes nothing.
+-- The same on the bytes of a pool, in the order of the code.
 use mathlib.Core.Path.{_≡_}
 use Prim.Native.Nat.{ℕ, _+_}
 use mathlib.Core.List.{List, [], _∷_, _++_}

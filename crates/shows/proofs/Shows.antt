@@ -1,4 +1,4 @@
--- An image that shows the links of a well-formed state has them, page by page; and the state's own image shows them. Assumes nothing.
+-- An image that shows the links of a well-formed state has them, page by page; and the state's own image shows them.
 use mathlib.Core.Path.{_≡_, refl, sym, _∙_}
 use mathlib.Core.Logic.{_⊎_, inl, inr, _≢_}
 use mathlib.Core.Bool.{true, false}

@@ -1,4 +1,4 @@
--- When an image shows the links of a state: its ten lists, and each page's kind, class and run. Assumes nothing.
+-- When an image shows the links of a state: its ten lists, and each page's kind, class and run.
 use mathlib.Core.Path.{_≡_}
 use mathlib.Core.List.{List}
 use Prim.Native.Nat.{ℕ, suc, _≤_, _<_}

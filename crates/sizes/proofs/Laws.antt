@@ -1,4 +1,4 @@
--- The chunk of a class by a shift, and the class of a size by tests. Assumes nothing.
+-- The chunk of a class by a shift, and the class of a size by tests.
 use mathlib.Core.Path.{_≡_, refl, sym}
 use mathlib.Core.Logic.{_⊎_, inl, inr}
 use mathlib.Core.Bool.{Bool, true, false, _&&_, not}

@@ -1,4 +1,4 @@
--- The class of a size by the leading zeros of the size less one. Assumes nothing.
+-- The class of a size by the leading zeros of the size less one.
 use mathlib.Core.Path.{_≡_, refl, ap, _∙_}
 use mathlib.Core.Bool.{not}
 use Prim.Native.Nat.{ℕ, _+_, _-_, _≤_, _<_}

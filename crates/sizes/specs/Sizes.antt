@@ -1,4 +1,4 @@
--- What a size asks for, as the code finds it. Assumes nothing.
+-- What a size asks for, as the code finds it.
 use Prim.Native.Nat.{ℕ}
 use lib.Dec.{leb}
 use Rattle.base.specs.Tests.{pick}

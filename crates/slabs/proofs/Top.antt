@@ -1,4 +1,4 @@
--- The own marks of a map are the top bits of its first word. Assumes nothing.
+-- The own marks of a map are the top bits of its first word.
 use mathlib.Core.Path.{_≡_, refl, sym, ap, _∙_}
 use mathlib.Core.Logic.{_⊎_, inl, inr}
 use mathlib.Core.Bool.{Bool, true, false}

@@ -1,4 +1,4 @@
--- The free runs counted page by page, and the line in two parts. Assumes nothing.
+-- The free runs counted page by page, and the line in two parts.
 use mathlib.Core.Path.{_≡_, refl, sym, _∙_}
 use mathlib.Core.Bool.{Bool}
 use mathlib.Core.List.{List}

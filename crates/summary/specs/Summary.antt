@@ -1,4 +1,4 @@
--- The last line of a printout: the free pages and the free runs. Assumes nothing.
+-- The last line of a printout: the free pages and the free runs.
 use Prim.Native.Nat.{ℕ}
 use mathlib.Core.List.{List, [], _∷_, _++_}
 use Rattle.base.specs.Count.{count}

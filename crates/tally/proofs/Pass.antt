@@ -1,4 +1,4 @@
--- The counters after one page more. Assumes nothing.
+-- The counters after one page more.
 use mathlib.Core.Path.{_≡_, refl, sym, ap, _∙_}
 use mathlib.Core.Logic.{_⊎_, inl, inr, _≢_}
 use mathlib.Core.Bool.{Bool, true, false, not, false≢true}

@@ -1,4 +1,4 @@
--- What the code adds for a page that keeps rule 2 is what the page adds in the words of the rules. Assumes nothing.
+-- What the code adds for a page that keeps rule 2 is what the page adds in the words of the rules.
 use mathlib.Core.Path.{_≡_, refl, sym, ap, _∙_}
 use mathlib.Core.Logic.{_⊎_, inl, inr, _≢_}
 use mathlib.Core.Bool.{Bool, true, false, _&&_, not}

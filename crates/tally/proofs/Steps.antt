@@ -1,4 +1,4 @@
--- What the code of the counters reads and decides. Assumes nothing.
+-- What the code of the counters reads and decides.
 use mathlib.Core.Path.{_≡_, refl, sym, _∙_, subst}
 use mathlib.Core.Logic.{_≢_}
 use mathlib.Core.List.{List}

@@ -1,4 +1,4 @@
--- What one pass over the pages counts, in eleven counters: nine for the classes, one for free pages, one for faults. Assumes nothing.
+-- What one pass over the pages counts, in eleven counters: nine for the classes, one for free pages, one for faults.
 -- A counter holds up to three counts side by side, so that a page of a class is one addition: from bit 0, from bit 32 and from bit 48 on.
 use Prim.Native.Nat.{ℕ, zero, suc, _+_, _-_, _*_, _%_, _^_, _≤_, _<_}
 use mathlib.Core.Path.{_≡_}

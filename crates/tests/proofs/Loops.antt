@@ -1,4 +1,4 @@
--- A loop that tests each number below n, and the tests that let control pass. Assumes nothing.
+-- A loop that tests each number below n, and the tests that let control pass.
 use mathlib.Core.Path.{_≡_, refl, sym, _∙_}
 use mathlib.Core.Bool.{Bool, true, false, not}
 use Prim.Native.Nat.{ℕ, _+_, _≤_, _<_}

@@ -1,4 +1,4 @@
--- The counts that the counters hold are those of rules 3 to 6. Assumes nothing.
+-- The counts that the counters hold are those of rules 3 to 6.
 use mathlib.Core.Path.{_≡_, refl, _∙_}
 use mathlib.Core.Bool.{Bool, true, false, not}
 use mathlib.Core.List.{List}

@@ -1,4 +1,4 @@
--- What the pass over the pages leaves: rule 2 holds of the n pages, and the counters t are theirs. Assumes nothing.
+-- What the pass over the pages leaves: rule 2 holds of the n pages, and the counters t are theirs.
 use mathlib.Core.Path.{_≡_}
 use mathlib.Core.Bool.{true}
 use mathlib.Core.List.{List}

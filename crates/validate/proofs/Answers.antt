@@ -1,4 +1,4 @@
--- From the answers of the tests to the first broken rule. Assumes nothing.
+-- From the answers of the tests to the first broken rule.
 use mathlib.Core.Path.{_≡_, refl, sym, _∙_}
 use mathlib.Core.Bool.{Bool, true, false, not}
 use mathlib.Core.List.{List, [], _∷_}

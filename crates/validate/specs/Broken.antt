@@ -1,4 +1,4 @@
--- The first broken rule from rule 2 and from rule 3 on. Assumes nothing.
+-- The first broken rule from rule 2 and from rule 3 on.
 use Prim.Native.Nat.{ℕ}
 use Rattle.base.specs.Tests.{pick}
 use Rattle.rules.specs.Fields.{Fields}

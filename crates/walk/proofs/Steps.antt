@@ -1,4 +1,4 @@
--- One step of a walk, from the facts that the tests give. Assumes nothing.
+-- One step of a walk, from the facts that the tests give.
 use mathlib.Core.Path.{_≡_, refl, sym, _∙_}
 use mathlib.Core.Bool.{Bool, true, false, not}
 use Prim.Native.Nat.{ℕ, zero, suc, _-_, _≤_, _<_}

@@ -1,4 +1,4 @@
--- The ten lists of a pool by number: those of the classes, and after them the free-run list. Assumes nothing.
+-- The ten lists of a pool by number: those of the classes, and after them the free-run list.
 use Prim.Native.Nat.{ℕ}
 use mathlib.Core.Bool.{Bool}
 use lib.Dec.{ltb}

@@ -1,4 +1,4 @@
--- Eight bytes joined from the last to the first, and turned over, are the word that they make. Assumes nothing.
+-- Eight bytes joined from the last to the first, and turned over, are the word that they make.
 use mathlib.Core.Path.{_≡_, _∙_}
 use mathlib.Core.List.{List}
 use Prim.Native.Nat.{ℕ, _+_, _*_, _/_, _%_, _<_}

@@ -1,4 +1,4 @@
--- The laws of the numbers of two, four and eight bytes, and of the words of a list. Assumes nothing.
+-- The laws of the numbers of two, four and eight bytes, and of the words of a list.
 use mathlib.Core.Path.{_≡_, refl, sym, _∙_}
 use mathlib.Core.Bool.{Bool, true, false}
 use mathlib.Core.Logic.{_⊎_, inl, inr, ⊎-elim, _≢_}

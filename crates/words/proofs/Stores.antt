@@ -1,4 +1,4 @@
--- Stores into words: the later of two into one word stands, and stores into two words change places. Assumes nothing.
+-- Stores into words: the later of two into one word stands, and stores into two words change places.
 use mathlib.Core.Path.{_≡_, sym, _∙_}
 use mathlib.Core.Logic.{_⊎_, inl, inr, ⊎-elim, _≢_}
 use mathlib.Core.List.{List}

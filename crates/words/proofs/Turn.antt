@@ -1,4 +1,4 @@
--- A word turned over and set least significant byte first is the word set. Assumes nothing.
+-- A word turned over and set least significant byte first is the word set.
 use mathlib.Core.Path.{_≡_}
 use mathlib.Core.List.{List}
 use Prim.Native.Nat.{ℕ, _+_, _/_, _%_, _<_}

@@ -1,4 +1,4 @@
--- Words with their bytes in the other order, as the code reads them. Assumes nothing.
+-- Words with their bytes in the other order, as the code reads them.
 use Prim.Native.Nat.{ℕ, _+_, _*_, _/_, _%_}
 use mathlib.Core.List.{List}
 use lib.ListN.{getD, set}
