@@ -35,7 +35,7 @@ fn cut_page(pool: &mut [u8], w: u8, pages: u16, c: u8, p: PageNumber) -> Allocat
 fn refuse_chunk(pool: &mut [u8], w: u8, c: u8) -> Allocated
     ensures { λ r. ⌜ (outcomeOf r ≡ refused NoRoom) × (now (pool .exit) ≡ chunkRefused w (now (pool .entry)) c) ⌝ }
 {
-    counting::refuse_chunk(pool, w, c);
+    class_counting::refuse_chunk(pool, w, c);
     Allocated::Refused(Refusal::NoRoom)
 }
 
@@ -54,7 +54,7 @@ fn new_page(pool: &mut [u8], w: u8, pages: u16, c: u8) -> Allocated
     requires { ⌜ c ≤ 8 ⌝ }
     ensures { λ r. ⌜ (outcomeOf r ≡ newOutcome w (now (pool .entry)) pages c) × (now (pool .exit) ≡ newSlice w (now (pool .entry)) pages c) ⌝ }
 {
-    let p = extents::first_fit(pool, w, pages, 1);
+    let p = run_extents::first_fit(pool, w, pages, 1);
     cut_or_refuse(pool, w, pages, c, p)
 }
 
@@ -74,6 +74,6 @@ pub fn alloc_chunk(pool: &mut [u8], w: u8, pages: u16, c: u8) -> Allocated
     requires { ⌜ c ≤ 8 ⌝ }
     ensures { λ r. ⌜ (outcomeOf r ≡ classOutcome w (now (pool .entry)) pages c) × (now (pool .exit) ≡ classSlice w (now (pool .entry)) pages c) ⌝ }
 {
-    let p = heads::first(pool, w, 1 + c);
+    let p = list_heads::first(pool, w, 1 + c);
     chunk_from(pool, w, pages, c, p)
 }

@@ -8,7 +8,7 @@ use records::PageNumber;
 ghost use mathlib.Core.Path.{_≡_};
 ghost use Prim.Native.Nat.{_*_, _%_};
 ghost use Rattle.answers.specs.Outcome.{granted};
-ghost use Rattle.extents.specs.Extents.{runTaken};
+ghost use Rattle.run_extents.specs.Extents.{runTaken};
 ghost use Rattle.allocating.specs.Allocating.{outcomeOf, runOutcome, runSlice, pagesOutcome, pagesSlice};
 
 fn take_run(pool: &mut [u8], w: u8, k: u32, p: PageNumber) -> Allocated
@@ -31,6 +31,6 @@ fn run_from(pool: &mut [u8], w: u8, k: u32, p: PageNumber) -> Allocated
 pub fn alloc_run(pool: &mut [u8], w: u8, pages: u16, k: u32) -> Allocated
     ensures { λ r. ⌜ (outcomeOf r ≡ pagesOutcome w (now (pool .entry)) pages k) × (now (pool .exit) ≡ pagesSlice w (now (pool .entry)) pages k) ⌝ }
 {
-    let p = extents::first_fit(pool, w, pages, k);
+    let p = run_extents::first_fit(pool, w, pages, k);
     run_from(pool, w, k, p)
 }

@@ -7,10 +7,10 @@ use Rattle.records.specs.Layout.{noPage}
 use Rattle.answers.specs.Outcome.{Outcome, granted, refused}
 use Rattle.answers.specs.declared.Refusal.the-variants.{NoRoom}
 use Rattle.model.specs.Classes.{chunk, chunks, own, pagesFor}
-use Rattle.bitmaps.specs.Bitmap.{lowestClear}
+use Rattle.maps.specs.Bitmap.{lowestClear}
 use Rattle.lists.specs.Links.{firstOf}
 use Rattle.rules.specs.Bytes.{mapBase}
-use Rattle.extents.specs.Extents.{fitIn, runTaken}
+use Rattle.run_extents.specs.Extents.{fitIn, runTaken}
 use Rattle.classes.specs.Classes.{chunkRefused}
 use Rattle.chunks.specs.Chunks.{chunkTaken, pageCut}
 use Rattle.sizes.specs.Sizes.{classFor}

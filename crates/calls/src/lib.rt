@@ -15,7 +15,7 @@ ghost use Rattle.demands.specs.Calls.{answered, after};
 fn pages_in(w: u8, len: usize) -> u16
     ensures { λ r. ⌜ r ≡ pageCount w len % 65536 ⌝ }
 {
-    (length_rule::page_count(w, len) % 65536) as u16
+    (validate_length::page_count(w, len) % 65536) as u16
 }
 
 // Takes a block of at least `size` bytes: its offset, or the refusal.

@@ -2,7 +2,7 @@
 // `w` is the number of words of a class record, `pages` the pages of the pool.
 use records::PageNumber;
 ghost use mathlib.Core.Path.{_≡_};
-ghost use Rattle.bitmaps.specs.Bitmap.{lowestClear};
+ghost use Rattle.maps.specs.Bitmap.{lowestClear};
 ghost use Rattle.model.specs.Classes.{chunks};
 ghost use Rattle.rules.specs.Bytes.{mapBase};
 ghost use Rattle.chunks.specs.Chunks.{chunkTaken, newMapAt, pageCut};
@@ -11,9 +11,9 @@ ghost use Rattle.chunks.specs.Chunks.{chunkTaken, newMapAt, pageCut};
 fn free_chunk_of(pool: &[u8], w: u8, pages: u16, c: u8, p: PageNumber) -> u16
     ensures { λ r. ⌜ r ≡ lowestClear (now (pool .entry)) (mapBase w pages (p .0) c) (chunks c) ⌝ }
 {
-    lowest::lowest_clear(
+    map_search::lowest_clear(
         pool,
-        page_maps::map_base(w, pages, p, c),
+        map_places::map_base(w, pages, p, c),
         classes::chunk_count(c),
     )
 }
@@ -22,10 +22,10 @@ fn free_chunk_of(pool: &[u8], w: u8, pages: u16, c: u8, p: PageNumber) -> u16
 fn take_chunk(pool: &mut [u8], w: u8, pages: u16, c: u8, p: PageNumber, i: u16)
     ensures { λ _. ⌜ now (pool .exit) ≡ chunkTaken w (now (pool .entry)) pages c (p .0) i ⌝ }
 {
-    let last = page_maps::is_last_free(pool, w, pages, p, c, i);
+    let last = map_places::is_last_free(pool, w, pages, p, c, i);
     class_lists::leave_if_full(pool, w, c, p, last);
-    marks::set_mark(pool, page_maps::map_base(w, pages, p, c), i);
-    counting::count_used(pool, w, c);
+    map_marks::set_mark(pool, map_places::map_base(w, pages, p, c), i);
+    class_counting::count_used(pool, w, c);
 }
 
 // Hands out the lowest free chunk of page p, the first on the list of class c, and answers its number.
@@ -42,9 +42,9 @@ pub fn alloc_chunk(pool: &mut [u8], w: u8, pages: u16, c: u8, p: PageNumber) -> 
 fn open_map(pool: &mut [u8], w: u8, pages: u16, c: u8, p: PageNumber)
     ensures { λ _. ⌜ now (pool .exit) ≡ newMapAt w (now (pool .entry)) pages c (p .0) ⌝ }
 {
-    new_maps::write_map_at(
+    map_new::write_map_at(
         pool,
-        page_maps::map_base(w, pages, p, c),
+        map_places::map_base(w, pages, p, c),
         classes::map_bytes(c),
         classes::own_count(c) + 1,
     );
@@ -57,5 +57,5 @@ pub fn cut_page(pool: &mut [u8], w: u8, pages: u16, c: u8, p: PageNumber)
     run_alloc::take_page(pool, w, p);
     class_lists::enlist(pool, w, c, p);
     open_map(pool, w, pages, c, p);
-    counting::count_page_used(pool, w, c);
+    class_counting::count_page_used(pool, w, c);
 }

@@ -8,10 +8,10 @@ ghost use Rattle.chunks.specs.Chunks.{chunkKept, pageDropped, chunkFreed};
 fn keep_page(pool: &mut [u8], w: u8, pages: u16, c: u8, p: PageNumber, i: u16)
     ensures { λ _. ⌜ now (pool .exit) ≡ chunkKept w (now (pool .entry)) pages c (p .0) i ⌝ }
 {
-    let full = page_maps::is_full(pool, w, pages, p, c);
+    let full = map_places::is_full(pool, w, pages, p, c);
     class_lists::return_if_full(pool, w, c, p, full);
-    marks::clear_mark(pool, page_maps::map_base(w, pages, p, c), i);
-    counting::count_back(pool, w, c);
+    map_marks::clear_mark(pool, map_places::map_base(w, pages, p, c), i);
+    class_counting::count_back(pool, w, c);
 }
 
 // The last chunk i of page p comes back: the page leaves the list and is released.
@@ -20,15 +20,15 @@ fn drop_page(pool: &mut [u8], w: u8, pages: u16, c: u8, p: PageNumber, i: u16)
 {
     class_lists::delist(pool, w, c, p);
     run_free::release(pool, w, pages, p, 1);
-    marks::clear_mark(pool, page_maps::map_base(w, pages, p, c), i);
-    counting::count_page_back(pool, w, c);
+    map_marks::clear_mark(pool, map_places::map_base(w, pages, p, c), i);
+    class_counting::count_page_back(pool, w, c);
 }
 
 // Chunk i of page p, which is taken, comes back.
 pub fn free_chunk(pool: &mut [u8], w: u8, pages: u16, c: u8, p: PageNumber, i: u16)
     ensures { λ _. ⌜ now (pool .exit) ≡ chunkFreed w (now (pool .entry)) pages c (p .0) i ⌝ }
 {
-    if page_maps::is_last_taken(pool, w, pages, p, c, i) {
+    if map_places::is_last_taken(pool, w, pages, p, c, i) {
         drop_page(pool, w, pages, c, p, i);
     } else {
         keep_page(pool, w, pages, c, p, i);

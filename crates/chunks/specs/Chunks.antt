@@ -8,14 +8,14 @@ use Rattle.records.specs.Layout.{noPage}
 use Rattle.records.specs.declared.Links.{Links}
 use Rattle.records.specs.Page.{linksAt, withLinks}
 use Rattle.model.specs.Classes.{own}
-use Rattle.bitmaps.specs.Bitmap.{withMark, withNewMap}
+use Rattle.maps.specs.Bitmap.{withMark, withNewMap}
 use Rattle.lists.specs.Links.{unlinked, pushed}
 use Rattle.rules.specs.Drawn.{links}
 use Rattle.rules.specs.Bytes.{mapBase}
-use Rattle.extents.specs.Extents.{frontPage}
-use Rattle.coalesce.specs.Release.{pagesReleased}
-use Rattle.popcount.specs.Popcount.{mapBits}
-use Rattle.occupancy.specs.Occupancy.{isFull, lastFree, lastTaken}
+use Rattle.run_extents.specs.Extents.{frontPage}
+use Rattle.run_neighbours.specs.Release.{pagesReleased}
+use Rattle.map_count.specs.Popcount.{mapBits}
+use Rattle.map_occupancy.specs.Occupancy.{isFull, lastFree, lastTaken}
 use Rattle.classes.specs.Classes.{mapWord, countUsed, countPageUsed, countBack, countPageBack}
 
 -- ---- class lists

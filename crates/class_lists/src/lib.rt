@@ -8,8 +8,8 @@ ghost use Rattle.chunks.specs.Chunks.{delisted, setAside, enlisted, fullLeaves,
 pub fn delist(pool: &mut [u8], w: u8, c: u8, p: PageNumber)
     ensures { λ _. ⌜ now (pool .exit) ≡ delisted w (now (pool .entry)) c (p .0) ⌝ }
 {
-    let l = page_records::get_links(pool, w, p);
-    relinking::unlink(pool, w, chunks::list_of(c), l);
+    let l = record_page::get_links(pool, w, p);
+    list_moves::unlink(pool, w, chunks::list_of(c), l);
 }
 
 // And stays a class page.
@@ -17,13 +17,13 @@ fn set_aside(pool: &mut [u8], w: u8, c: u8, p: PageNumber)
     ensures { λ _. ⌜ now (pool .exit) ≡ setAside w (now (pool .entry)) c (p .0) ⌝ }
 {
     delist(pool, w, c, p);
-    page_records::put_links(pool, w, p, chunks::class_links(c));
+    record_page::put_links(pool, w, p, chunks::class_links(c));
 }
 
 pub fn enlist(pool: &mut [u8], w: u8, c: u8, p: PageNumber)
     ensures { λ _. ⌜ now (pool .exit) ≡ enlisted w (now (pool .entry)) c (p .0) ⌝ }
 {
-    relinking::push_front(pool, w, chunks::list_of(c), p, chunks::class_links(c));
+    list_moves::push_front(pool, w, chunks::list_of(c), p, chunks::class_links(c));
 }
 
 // Page p is to have one chunk more taken: if that is its last the page leaves the list.

@@ -16,7 +16,7 @@ use Rattle.model.specs.Classes.{chunks, own}
 use Rattle.model.specs.State.{most}
 use Rattle.model.specs.Calls.{raise}
 use Rattle.rules.specs.Bytes.{mapBase}
-use Rattle.popcount.specs.Popcount.{mapBits}
+use Rattle.map_count.specs.Popcount.{mapBits}
 use Rattle.classes.specs.Classes.{mapWord, ownWord}
 
 pub chunks-some : (c : ℕ) → 1 ≤ chunks c

@@ -2,7 +2,7 @@
 ghost use mathlib.Core.Path.{_≡_};
 ghost use Prim.Native.Nat.{_/_, _≤_};
 ghost use Rattle.model.specs.Classes.{chunks, own, counted};
-ghost use Rattle.popcount.specs.Popcount.{mapBits};
+ghost use Rattle.map_count.specs.Popcount.{mapBits};
 ghost use Rattle.classes.specs.Classes.{ownWord};
 
 // The chunks that a page of class c is cut into, where the caller knows that c is a class.

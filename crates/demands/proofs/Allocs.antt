@@ -17,10 +17,10 @@ use Rattle.model.specs.Runs.{fit}
 use Rattle.model.specs.Calls.{Reply, noRoom, refuse, tallied, allocRun, cutPage, markChunk, allocChunk, allocFor, alloc}
 use Rattle.model.proofs.Classes.{class-ok}
 use Rattle.lists.specs.Links.{firstOf}
-use Rattle.extents.specs.Extents.{fitIn, runTaken}
+use Rattle.run_extents.specs.Extents.{fitIn, runTaken}
 use Rattle.classes.specs.Classes.{chunkRefused}
 use Rattle.chunks.specs.Chunks.{chunkTaken, pageCut}
-use Rattle.freeruns.specs.OnImage.{startOr}
+use Rattle.run_laws.specs.OnImage.{startOr}
 use Rattle.sizes.proofs.Laws.{class-is}
 use Rattle.allocating.specs.Allocating.{lowestOn, chunkOutcome, chunkSlice, firstOutcome, cutOutcome, cutSlice, newOutcome, newSlice, fromOutcome, fromSlice, classOutcome, classSlice, runOutcome, runSlice, pagesOutcome, pagesSlice, allocOutcome, allocSlice}
 use Rattle.drawing.specs.Draw.{draw}

@@ -15,8 +15,8 @@ use Rattle.words.specs.Word.{Bytes}
 use Rattle.records.specs.Layout.{mapPlace, pagesFrom, pageCount}
 use Rattle.answers.specs.Outcome.{Outcome, refused}
 use Rattle.answers.specs.declared.Refusal.the-variants.{NotSound}
-use Rattle.bitmaps.specs.Bitmap.{withMark}
-use Rattle.bitmaps.proofs.Marks.{length-withMark, withMark-bytes, withMark-outside}
+use Rattle.maps.specs.Bitmap.{withMark}
+use Rattle.maps.proofs.Marks.{length-withMark, withMark-bytes, withMark-outside}
 use Rattle.base.specs.Functions.{upd}
 use Rattle.model.specs.Classes.{chunk, chunks, own, hasTaken, startsChunk, Need, chunkOf, pages, needOf}
 use Rattle.model.specs.State.{Page, idle, slab, taken, inside, edge, State}

@@ -17,7 +17,7 @@ use Rattle.words.specs.Word.{Bytes}
 use Rattle.records.specs.Layout.{noPage}
 use Rattle.records.specs.declared.Links.{Links}
 use Rattle.records.specs.Page.{linksAt}
-use Rattle.bitmaps.specs.Bitmap.{mark, lowestClear}
+use Rattle.maps.specs.Bitmap.{mark, lowestClear}
 use Rattle.model.specs.Classes.{chunks, lowest}
 use Rattle.model.specs.State.{Page, slab, edge, Run, State, isIdle, marksOf}
 use Rattle.model.specs.WellFormed.{WellFormed}
@@ -37,9 +37,9 @@ use Rattle.drawing.proofs.Mapped.{length-mapped}
 use Rattle.drawing.proofs.Drawn.{drawn-shows}
 use Rattle.drawing.proofs.Laws.{claims as laws-of}
 use Rattle.shows.proofs.Shows.{listed-low}
-use Rattle.extents.specs.Extents.{fitIn}
-use Rattle.freeruns.specs.OnImage.{startOr}
-use Rattle.freeruns.proofs.Drawn.{fit-drawn}
+use Rattle.run_extents.specs.Extents.{fitIn}
+use Rattle.run_laws.specs.OnImage.{startOr}
+use Rattle.run_laws.proofs.Drawn.{fit-drawn}
 use Rattle.allocating.specs.Allocating.{lowestOn}
 
 module _ (w : ℕ) (wide : 2 ≤ w) (narrow : w ≤ 255) (s : List ℕ) (B : Bytes s) (sound : brokenRule w s ≡ 0) where

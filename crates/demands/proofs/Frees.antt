@@ -12,7 +12,7 @@ use Rattle.records.specs.Layout.{noPage}
 use Rattle.records.specs.Page.{linksAt}
 use Rattle.answers.specs.Outcome.{refused}
 use Rattle.answers.specs.declared.Refusal.the-variants.{Outside}
-use Rattle.bitmaps.specs.Bitmap.{withMark}
+use Rattle.maps.specs.Bitmap.{withMark}
 use Rattle.base.specs.Functions.{upd}
 use Rattle.model.specs.Classes.{chunk, chunks, own, hasTaken, startsChunk}
 use Rattle.model.specs.State.{Page, idle, slab, taken, inside, edge, State}
@@ -20,7 +20,7 @@ use Rattle.model.specs.Runs.{startsAt}
 use Rattle.model.specs.Calls.{outside, notTaken, notAStart, refuse, release, freeChunk, freeAt, free}
 use Rattle.rules.specs.Bytes.{pagesIn, mapBase}
 use Rattle.rules.specs.Drawn.{links, freeLinks, pageLinks}
-use Rattle.coalesce.specs.Release.{pagesReleased}
+use Rattle.run_neighbours.specs.Release.{pagesReleased}
 use Rattle.chunks.specs.Chunks.{chunkFreed}
 use Rattle.freeing.specs.Freeing.{marked, markOutcome, markSlice, pastOutcome, pastSlice, startOutcome, startSlice, sizedOutcome, sizedSlice, offsetOutcome, offsetSlice, chunkOutcome, chunkSlice, runOutcome, runSlice, kindOutcome, kindSlice, pageOutcome, pageSlice, freeOutcome, freeSlice}
 use Rattle.drawing.specs.Draw.{draw}

@@ -17,7 +17,7 @@ use Rattle.words.specs.Word.{Bytes}
 use Rattle.records.specs.Layout.{pageCount}
 use Rattle.answers.specs.Outcome.{Outcome, refused}
 use Rattle.answers.specs.declared.Refusal.the-variants.{NotSound}
-use Rattle.bitmaps.specs.Bitmap.{withMark}
+use Rattle.maps.specs.Bitmap.{withMark}
 use Rattle.model.specs.Classes.{chunk, chunks, own, lowest, hasTaken}
 use Rattle.model.specs.State.{State, slab, marksOf}
 use Rattle.model.specs.Calls.{Call, Alloc, Free, dropPage, freeChunk, step}
@@ -27,11 +27,11 @@ use Rattle.drawing.specs.Draw.{draw}
 use Rattle.drawing.specs.Claim.{Fitting}
 use Rattle.chunks.specs.Chunks.{chunkTaken, pageCut, chunkFreed}
 use Rattle.classes.specs.Classes.{chunkRefused}
-use Rattle.extents.specs.Extents.{runTaken}
-use Rattle.coalesce.specs.Release.{pagesReleased}
-use Rattle.chunklaws.specs.Claim.{Laws}
-use Rattle.chunklaws.proofs.Laws.{claims as chunk-laws}
-use Rattle.freeruns.proofs.Drawn.{run-taken, run-released}
+use Rattle.run_extents.specs.Extents.{runTaken}
+use Rattle.run_neighbours.specs.Release.{pagesReleased}
+use Rattle.chunk_laws.specs.Claim.{Laws}
+use Rattle.chunk_laws.proofs.Laws.{claims as chunk-laws}
+use Rattle.run_laws.proofs.Drawn.{run-taken, run-released}
 use Rattle.allocating.specs.Allocating.{allocOutcome, allocSlice}
 use Rattle.freeing.specs.Freeing.{marked, freeOutcome, freeSlice}
 use Rattle.demands.specs.Calls.{answered, cleared, after}

@@ -6,7 +6,7 @@ use lib.Dec.{eqb}
 use Rattle.base.specs.Tests.{pick}
 use Rattle.answers.specs.Outcome.{Outcome, granted, refused}
 use Rattle.answers.specs.declared.Refusal.the-variants.{NotSound}
-use Rattle.bitmaps.specs.Bitmap.{withMark}
+use Rattle.maps.specs.Bitmap.{withMark}
 use Rattle.base.specs.Functions.{upd}
 use Rattle.model.specs.Classes.{chunk, hasTaken, startsChunk}
 use Rattle.model.specs.State.{Page, idle, slab, taken, inside, edge}

@@ -21,9 +21,9 @@ use Rattle.model.specs.Classes.{chunks, maxPages}
 use Rattle.model.specs.State.{Page, idle, slab, taken, inside, edge, State}
 use Rattle.model.specs.WellFormed.{WellFormed}
 use Rattle.model.proofs.Table.{slab-ok}
-use Rattle.bitmaps.specs.Bitmap.{mark, bitsOf}
-use Rattle.bitmaps.proofs.Bits.{bits-small, bit-byte}
-use Rattle.bitmaps.proofs.Words.{word-mark}
+use Rattle.maps.specs.Bitmap.{mark, bitsOf}
+use Rattle.maps.proofs.Bits.{bits-small, bit-byte}
+use Rattle.maps.proofs.Words.{word-mark}
 use Rattle.image.specs.Image.{headerOf, paint, Same}
 use Rattle.image.proofs.Fits.{Fits, header-fits}
 use Rattle.image.proofs.Write.{length-write, word-write}

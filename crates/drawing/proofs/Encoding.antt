@@ -19,10 +19,10 @@ use Rattle.records.specs.Page.{linksAt}
 use Rattle.records.proofs.Laws.{unpacked-class-fits}
 use Rattle.model.specs.Classes.{chunks}
 use Rattle.model.specs.State.{most}
-use Rattle.bitmaps.specs.Bitmap.{mark, bitsOf}
-use Rattle.bitmaps.proofs.Bits.{bits-ext, bits-small, bits-join, bits-injective, byte-is}
-use Rattle.bitmaps.proofs.Marks.{mark-at}
-use Rattle.bitmaps.proofs.Words.{word-marks}
+use Rattle.maps.specs.Bitmap.{mark, bitsOf}
+use Rattle.maps.proofs.Bits.{bits-ext, bits-small, bits-join, bits-injective, byte-is}
+use Rattle.maps.proofs.Marks.{mark-at}
+use Rattle.maps.proofs.Words.{word-marks}
 use Rattle.rules.specs.Fields.{kind, class, run, pageOf, pageAt}
 use Rattle.rules.specs.Read.{readFields}
 use Rattle.rules.specs.Bytes.{pagesIn, mapBase, markAt, imageOf, fieldsOf, read}

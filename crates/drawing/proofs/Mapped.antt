@@ -16,8 +16,8 @@ use Rattle.records.specs.Layout.{pagesFrom}
 use Rattle.model.specs.Classes.{chunks}
 use Rattle.model.proofs.Classes.{small-chunks}
 use Rattle.model.specs.State.{slab, State}
-use Rattle.bitmaps.specs.Bitmap.{bitsOf}
-use Rattle.bitmaps.proofs.Bits.{byte-small}
+use Rattle.maps.specs.Bitmap.{bitsOf}
+use Rattle.maps.proofs.Bits.{byte-small}
 use Rattle.drawing.specs.Draw.{mapHas, mapByte, inMap, mappedByte, tab, mapped}
 
 module _ {A : Type 0} where

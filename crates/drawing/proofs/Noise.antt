@@ -15,7 +15,7 @@ use Rattle.records.specs.Header.{unpackHeader, headerAt}
 use Rattle.records.specs.Class.{classAt}
 use Rattle.records.specs.Page.{unpackLinks, linksAt}
 use Rattle.model.specs.Classes.{chunks}
-use Rattle.bitmaps.proofs.Marks.{mark-byte}
+use Rattle.maps.proofs.Marks.{mark-byte}
 use Rattle.image.proofs.Places.{class-below}
 use Rattle.rules.specs.Fields.{class}
 use Rattle.rules.specs.Bytes.{pagesIn, markAt, imageOf, fieldsOf, rule1}

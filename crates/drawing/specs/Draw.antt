@@ -8,7 +8,7 @@ use Rattle.base.specs.Tests.{pick}
 use Rattle.records.specs.Layout.{pagesFrom}
 use Rattle.model.specs.Classes.{chunks}
 use Rattle.model.specs.State.{Page, idle, slab, taken, inside, edge, State, marksOf}
-use Rattle.bitmaps.specs.Bitmap.{bitsOf}
+use Rattle.maps.specs.Bitmap.{bitsOf}
 use Rattle.image.specs.Image.{paint}
 use Rattle.rules.specs.Drawn.{stateImage}
 

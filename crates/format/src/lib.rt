@@ -88,8 +88,8 @@ fn fill(pool: &mut [u8], from: u16, step: u8, n: u16, v: u64)
 fn clear_classes(pool: &mut [u8], w: u8)
     ensures { λ _. ⌜ now (pool .exit) ≡ classesCleared w (now (pool .entry)) ⌝ }
 {
-    fill(pool, 1, w, 9, class_records::pack_counts(empty_class()));
-    fill(pool, 2, w, 9, class_records::pack_tally(empty_class()));
+    fill(pool, 1, w, 9, record_class::pack_counts(empty_class()));
+    fill(pool, 2, w, 9, record_class::pack_tally(empty_class()));
 }
 
 fn clear_pages(pool: &mut [u8], w: u8, pages: u16)
@@ -101,7 +101,7 @@ fn clear_pages(pool: &mut [u8], w: u8, pages: u16)
         2 + 9 * w as u16,
         2,
         pages,
-        page_records::pack_links(inside_free(PageNumber(NO_PAGE))),
+        record_page::pack_links(inside_free(PageNumber(NO_PAGE))),
     );
 }
 
@@ -110,8 +110,8 @@ fn link_run(pool: &mut [u8], w: u8, pages: u16)
     requires { ⌜ 1 ≤ pages ⌝ }
     ensures { λ _. ⌜ now (pool .exit) ≡ runLinked w pages (now (pool .entry)) ⌝ }
 {
-    page_records::put_links(pool, w, PageNumber(pages - 1), inside_free(PageNumber(0)));
-    page_records::put_links(pool, w, PageNumber(0), first_free(pages));
+    record_page::put_links(pool, w, PageNumber(pages - 1), inside_free(PageNumber(0)));
+    record_page::put_links(pool, w, PageNumber(0), first_free(pages));
 }
 
 // Header, class records and page records of a pool of one free run.
@@ -119,7 +119,7 @@ fn write_records(pool: &mut [u8], w: u8, pages: u16)
     requires { ⌜ (1 ≤ w) × (1 ≤ pages) ⌝ }
     ensures { λ _. ⌜ now (pool .exit) ≡ written w pages (now (pool .entry)) ⌝ }
 {
-    headers::put_header(pool, fresh_header(w, pages));
+    record_header::put_header(pool, fresh_header(w, pages));
     clear_classes(pool, w);
     clear_pages(pool, w, pages);
     link_run(pool, w, pages);

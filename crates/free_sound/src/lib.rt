@@ -10,7 +10,7 @@ use records::PAGE;
 use records::PageNumber;
 ghost use mathlib.Core.Path.{_≡_};
 ghost use Rattle.answers.specs.Outcome.{granted};
-ghost use Rattle.coalesce.specs.Release.{pagesReleased};
+ghost use Rattle.run_neighbours.specs.Release.{pagesReleased};
 ghost use Rattle.freeing.specs.Freeing.{outcomeOf, runOutcome, runSlice, kindOutcome, kindSlice, pageOutcome, pageSlice, freeOutcome, freeSlice};
 
 fn release(pool: &mut [u8], w: u8, pages: u16, n: u16, p: PageNumber) -> Freed
@@ -50,7 +50,7 @@ fn free_kind(pool: &mut [u8], w: u8, pages: u16, p: PageNumber, q: u32, l: Links
 fn free_page(pool: &mut [u8], w: u8, pages: u16, p: PageNumber, q: u32) -> Freed
     ensures { λ r. ⌜ (outcomeOf r ≡ pageOutcome w (now (pool .entry)) pages (p .0) q) × (now (pool .exit) ≡ pageSlice w (now (pool .entry)) pages (p .0) q) ⌝ }
 {
-    let l = page_records::get_links(pool, w, p);
+    let l = record_page::get_links(pool, w, p);
     free_kind(pool, w, pages, p, q, l)
 }
 

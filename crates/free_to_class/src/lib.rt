@@ -11,7 +11,7 @@ ghost use Rattle.freeing.specs.Freeing.{outcomeOf, marked, markOutcome, markSli
 fn is_marked(pool: &[u8], w: u8, pages: u16, c: u8, p: PageNumber, i: u16) -> bool
     ensures { λ r. ⌜ r ≡ marked w (now (pool .entry)) pages c (p .0) i ⌝ }
 {
-    marks::get_mark(pool, page_maps::map_base(w, pages, p, c), i)
+    map_marks::get_mark(pool, map_places::map_base(w, pages, p, c), i)
 }
 
 fn take_back(pool: &mut [u8], w: u8, pages: u16, c: u8, p: PageNumber, i: u16) -> Freed

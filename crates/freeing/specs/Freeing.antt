@@ -9,9 +9,9 @@ use Rattle.answers.specs.declared.Refusal.the-variants.{Outside, NotTaken, NotA
 use Rattle.records.specs.declared.Links.{Links}
 use Rattle.records.specs.Page.{linksAt}
 use Rattle.model.specs.Classes.{chunk, own}
-use Rattle.bitmaps.specs.Bitmap.{mark}
+use Rattle.maps.specs.Bitmap.{mark}
 use Rattle.rules.specs.Bytes.{mapBase}
-use Rattle.coalesce.specs.Release.{pagesReleased}
+use Rattle.run_neighbours.specs.Release.{pagesReleased}
 use Rattle.chunks.specs.Chunks.{chunkFreed}
 use Rattle.freeing.specs.declared.Freed.{Freed}
 use Rattle.freeing.specs.declared.Freed.the-variants.{Done, Refused}

@@ -18,7 +18,7 @@ use Rattle.records.specs.declared.Links.{Links}
 use Rattle.model.specs.State.{Page, Run, Tally, marksOf}
 use Rattle.model.specs.Runs.{startsAt, endsAt}
 use Rattle.model.specs.View.{usedOf, shown}
-use Rattle.bitmaps.specs.Bitmap.{bitsOf}
+use Rattle.maps.specs.Bitmap.{bitsOf}
 use Rattle.rules.specs.Fields.{Fields, kind, class, run, next, prev, map, first, pageAt}
 use Rattle.rules.specs.Read.{openAt, headsOf, listOf, withLengths, tallyOf, readFields}
 use Rattle.rules.specs.Plain.{ClassPage, Rule2, Lists, Head, Open}

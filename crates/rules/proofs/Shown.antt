@@ -18,8 +18,8 @@ use Rattle.model.specs.WellFormed.{Stretch, RunsOk, WellFormed}
 use Rattle.model.proofs.Classes.{bitmap-in-record}
 use Rattle.model.proofs.Runs.{starts-at, ends-at}
 use Rattle.model.proofs.Table.{is-idle, in-table, slab-ok, taken-ok}
-use Rattle.bitmaps.specs.Bitmap.{bitsOf}
-use Rattle.bitmaps.proofs.Bits.{bits-join}
+use Rattle.maps.specs.Bitmap.{bitsOf}
+use Rattle.maps.proofs.Bits.{bits-join}
 use Rattle.rules.specs.Fields.{Fields, kind, class, run, next, prev, map, pageAt}
 use Rattle.rules.specs.Drawn.{starts, links, onList, backLink, freeLinks, pageLinks, mapOf, stateImage, stateFields}
 use Rattle.model.proofs.Classes.{own-none}

@@ -5,7 +5,7 @@ use Prim.Native.Nat.{ℕ, _-_, _%_, _^_, _≤_, _<_}
 use Rattle.image.specs.Image.{Same}
 use Rattle.model.specs.Classes.{chunks}
 use Rattle.model.specs.State.{most}
-use Rattle.bitmaps.specs.Bitmap.{bitsOf}
+use Rattle.maps.specs.Bitmap.{bitsOf}
 use Rattle.rules.specs.Fields.{Fields, kind, class, map}
 use Rattle.rules.specs.Rules.{rule2, rule3, rule4, rule5, rule6}
 

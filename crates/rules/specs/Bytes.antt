@@ -12,7 +12,7 @@ use Rattle.records.specs.Class.{classAt}
 use Rattle.records.specs.Page.{linksAt}
 use Rattle.model.specs.Classes.{chunks, maxPages}
 use Rattle.model.specs.State.{State}
-use Rattle.bitmaps.specs.Bitmap.{mark}
+use Rattle.maps.specs.Bitmap.{mark}
 use Rattle.image.specs.Image.{Image}
 use Rattle.rules.specs.Fields.{Fields}
 use Rattle.rules.specs.Read.{readFields}

@@ -9,7 +9,7 @@ use Rattle.records.specs.declared.Links.{Links}
 use Rattle.model.specs.State.{Page, idle, slab, taken, inside, edge, State, Run, marksOf}
 use Rattle.model.specs.Runs.{startsAt, endsAt}
 use Rattle.model.specs.View.{usedOf, shown}
-use Rattle.bitmaps.specs.Bitmap.{bitsOf}
+use Rattle.maps.specs.Bitmap.{bitsOf}
 use Rattle.image.specs.Image.{Image}
 use Rattle.rules.specs.Fields.{Fields}
 use Rattle.rules.specs.Rules.{freeIn}

@@ -6,28 +6,31 @@ use records::Links;
 use records::NO_PAGE;
 use records::PageNumber;
 ghost use mathlib.Core.Path.{_≡_};
-ghost use Rattle.extents.specs.Extents.{fewerFree, restKept, frontCut, frontOff, frontPage, runTaken};
+ghost use Rattle.run_extents.specs.Extents.{fewerFree, restKept, frontCut, frontOff, frontPage, runTaken};
 
 fn take_free(pool: &mut [u8], k: u16)
     ensures { λ _. ⌜ now (pool .exit) ≡ fewerFree (now (pool .entry)) k ⌝ }
 {
-    let h = headers::get_header(pool);
-    headers::put_header(pool, extents::free_to(h, extents::less(h.free_pages, k)));
+    let h = record_header::get_header(pool);
+    record_header::put_header(
+        pool,
+        run_extents::free_to(h, run_extents::less(h.free_pages, k)),
+    );
 }
 
 // What is left of the run that starts in page p after its front k pages takes its place.
 fn keep_rest(pool: &mut [u8], w: u8, p: PageNumber, k: u16, l: Links)
     ensures { λ _. ⌜ now (pool .exit) ≡ restKept w (now (pool .entry)) (p .0) k l ⌝ }
 {
-    let t = extents::after(p, k);
-    let n = extents::less(l.run, k);
-    relinking::replace(
+    let t = run_extents::after(p, k);
+    let n = run_extents::less(l.run, k);
+    list_moves::replace(
         pool,
         w,
         0,
         l,
         t,
-        extents::plain_links(FIRST_FREE, n, PageNumber(NO_PAGE)),
+        run_extents::plain_links(FIRST_FREE, n, PageNumber(NO_PAGE)),
     );
     run_records::put_back(pool, w, t, n);
 }
@@ -38,14 +41,14 @@ fn cut_front(pool: &mut [u8], w: u8, p: PageNumber, k: u16, l: Links)
     if k < l.run {
         keep_rest(pool, w, p, k, l);
     } else {
-        relinking::unlink(pool, w, 0, l);
+        list_moves::unlink(pool, w, 0, l);
     }
 }
 
 fn take_front(pool: &mut [u8], w: u8, p: PageNumber, k: u16)
     ensures { λ _. ⌜ now (pool .exit) ≡ frontOff w (now (pool .entry)) (p .0) k ⌝ }
 {
-    let l = page_records::get_links(pool, w, p);
+    let l = record_page::get_links(pool, w, p);
     take_free(pool, k);
     cut_front(pool, w, p, k, l);
 }
@@ -67,12 +70,12 @@ pub fn take_run(pool: &mut [u8], w: u8, p: PageNumber, k: u16)
         w,
         p,
         k,
-        extents::plain_links(INSIDE_TAKEN, 0, PageNumber(NO_PAGE)),
+        run_extents::plain_links(INSIDE_TAKEN, 0, PageNumber(NO_PAGE)),
     );
-    page_records::put_links(
+    record_page::put_links(
         pool,
         w,
         p,
-        extents::plain_links(FIRST_TAKEN, k, PageNumber(NO_PAGE)),
+        run_extents::plain_links(FIRST_TAKEN, k, PageNumber(NO_PAGE)),
     );
 }

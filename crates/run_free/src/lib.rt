@@ -5,8 +5,8 @@ use records::NO_PAGE;
 use records::PageNumber;
 ghost use mathlib.Core.Path.{_≡_};
 ghost use Prim.Native.Nat.{_+_};
-ghost use Rattle.extents.specs.Extents.{wrap};
-ghost use Rattle.coalesce.specs.Release.{moreFree, runUnlinked, runDropped, oneOf, blanked, runPushed, joinedRun, pagesReleased};
+ghost use Rattle.run_extents.specs.Extents.{wrap};
+ghost use Rattle.run_neighbours.specs.Release.{moreFree, runUnlinked, runDropped, oneOf, blanked, runPushed, joinedRun, pagesReleased};
 
 fn sum(a: u16, b: u16, c: u16) -> u16
     ensures { λ r. ⌜ r ≡ wrap (a + b + c) ⌝ }
@@ -23,15 +23,18 @@ fn one_of(n: u16) -> u16
 fn give_free(pool: &mut [u8], k: u16)
     ensures { λ _. ⌜ now (pool .exit) ≡ moreFree (now (pool .entry)) k ⌝ }
 {
-    let h = headers::get_header(pool);
-    headers::put_header(pool, extents::free_to(h, extents::add(h.free_pages, k)));
+    let h = record_header::get_header(pool);
+    record_header::put_header(
+        pool,
+        run_extents::free_to(h, run_extents::add(h.free_pages, k)),
+    );
 }
 
 fn unlink_run(pool: &mut [u8], w: u8, q: PageNumber)
     ensures { λ _. ⌜ now (pool .exit) ≡ runUnlinked w (now (pool .entry)) (q .0) ⌝ }
 {
-    let l = page_records::get_links(pool, w, q);
-    relinking::unlink(pool, w, 0, l);
+    let l = record_page::get_links(pool, w, q);
+    list_moves::unlink(pool, w, 0, l);
 }
 
 // The run of n pages that starts in page q leaves the list, where there is one.
@@ -49,9 +52,9 @@ fn blank(pool: &mut [u8], w: u8, p: PageNumber, k: u16, a: u16, b: u16)
     run_records::fill(
         pool,
         w,
-        coalesce::before(p, one_of(a)),
+        run_neighbours::before(p, one_of(a)),
         sum(one_of(a), k, one_of(b)),
-        extents::plain_links(INSIDE_FREE, 0, PageNumber(NO_PAGE)),
+        run_extents::plain_links(INSIDE_FREE, 0, PageNumber(NO_PAGE)),
     );
 }
 
@@ -60,30 +63,30 @@ fn push_run(pool: &mut [u8], w: u8, t: PageNumber, n: u16)
     ensures { λ _. ⌜ now (pool .exit) ≡ runPushed w (now (pool .entry)) (t .0) n ⌝ }
 {
     run_records::put_back(pool, w, t, n);
-    relinking::push_front(
+    list_moves::push_front(
         pool,
         w,
         0,
         t,
-        extents::plain_links(FIRST_FREE, n, PageNumber(NO_PAGE)),
+        run_extents::plain_links(FIRST_FREE, n, PageNumber(NO_PAGE)),
     );
 }
 
 fn join(pool: &mut [u8], w: u8, p: PageNumber, k: u16, a: u16, b: u16)
     ensures { λ _. ⌜ now (pool .exit) ≡ joinedRun w (now (pool .entry)) (p .0) k a b ⌝ }
 {
-    drop_run(pool, w, b, extents::after(p, k));
-    drop_run(pool, w, a, coalesce::before(p, a));
+    drop_run(pool, w, b, run_extents::after(p, k));
+    drop_run(pool, w, a, run_neighbours::before(p, a));
     blank(pool, w, p, k, a, b);
-    push_run(pool, w, coalesce::before(p, a), sum(a, k, b));
+    push_run(pool, w, run_neighbours::before(p, a), sum(a, k, b));
 }
 
 // The k pages from p on become free: they join the run right after and the run right before them, and the whole becomes the head of the list.
 pub fn release(pool: &mut [u8], w: u8, pages: u16, p: PageNumber, k: u16)
     ensures { λ _. ⌜ now (pool .exit) ≡ pagesReleased w (now (pool .entry)) pages (p .0) k ⌝ }
 {
-    let a = coalesce::left_len(pool, w, p);
-    let b = coalesce::right_len(pool, w, pages, extents::after(p, k));
+    let a = run_neighbours::left_len(pool, w, p);
+    let b = run_neighbours::right_len(pool, w, pages, run_extents::after(p, k));
     give_free(pool, k);
     join(pool, w, p, k, a, b);
 }

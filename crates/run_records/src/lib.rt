@@ -3,7 +3,7 @@ use records::INSIDE_FREE;
 use records::Links;
 use records::PageNumber;
 ghost use mathlib.Core.Path.{_≡_};
-ghost use Rattle.extents.specs.Extents.{filled, lastBacked, backed};
+ghost use Rattle.run_extents.specs.Extents.{filled, lastBacked, backed};
 
 // Gives the n pages from p on the links l.
 pub fn fill(pool: &mut [u8], w: u8, p: PageNumber, n: u16, l: Links)
@@ -11,7 +11,7 @@ pub fn fill(pool: &mut [u8], w: u8, p: PageNumber, n: u16, l: Links)
 {
     let mut i = 0;
     while i < n {
-        page_records::put_links(pool, w, extents::after(p, i), l);
+        record_page::put_links(pool, w, run_extents::after(p, i), l);
         i += 1;
     }
 }
@@ -19,11 +19,11 @@ pub fn fill(pool: &mut [u8], w: u8, p: PageNumber, n: u16, l: Links)
 fn put_last(pool: &mut [u8], w: u8, t: PageNumber, n: u16)
     ensures { λ _. ⌜ now (pool .exit) ≡ lastBacked w (now (pool .entry)) (t .0) n ⌝ }
 {
-    page_records::put_links(
+    record_page::put_links(
         pool,
         w,
-        extents::after(t, extents::less(n, 1)),
-        extents::plain_links(INSIDE_FREE, 0, t),
+        run_extents::after(t, run_extents::less(n, 1)),
+        run_extents::plain_links(INSIDE_FREE, 0, t),
     );
 }
 

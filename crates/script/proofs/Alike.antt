@@ -19,10 +19,10 @@ use Rattle.rules.proofs.Rules.{rule6-says}
 use Rattle.drawing.proofs.Laws.{none-broken, claims as laws-of}
 use Rattle.demands.specs.Demands.{Demands}
 use Rattle.demands.proofs.Demands.{all-demands}
-use Rattle.lines.specs.Lines.{lines, request}
+use Rattle.script_lines.specs.Lines.{lines, request}
 use Rattle.printing.specs.Text.{line, written}
-use Rattle.replies.specs.Replies.{poolWord, outcomeLine, formatLine, replyLine}
-use Rattle.summary.specs.Summary.{freeRuns, summaryOf}
+use Rattle.script_replies.specs.Replies.{poolWord, outcomeLine, formatLine, replyLine}
+use Rattle.script_summary.specs.Summary.{freeRuns, summaryOf}
 use Rattle.script.specs.Script.{pages, reply, next, replies, final, summary, exchange, transcript}
 use Rattle.script.specs.Served.{replyOn, nextOn, repliesOn, finalOn, textOn, exchangeOn, printoutOn}
 

@@ -12,9 +12,9 @@ use Rattle.base.proofs.AllBelow.{pick-yes, pick-no}
 use Rattle.answers.specs.declared.Refusal.the-variants.{ScriptTooLong}
 use Rattle.model.specs.State.{State}
 use Rattle.model.specs.Calls.{fresh}
-use Rattle.lines.specs.Lines.{lines, request}
+use Rattle.script_lines.specs.Lines.{lines, request}
 use Rattle.printing.specs.Text.{line, written, Prints}
-use Rattle.replies.specs.Replies.{poolWord, noWord, refusalLine}
+use Rattle.script_replies.specs.Replies.{poolWord, noWord, refusalLine}
 use Rattle.script.specs.Script.{longest, pages, reply, next, replies, final, exchange, transcript, printout}
 use Rattle.script.specs.Claim.{Claims}
 use Rattle.script.proofs.Numbers.{reads-back}

@@ -10,11 +10,11 @@ use Rattle.model.specs.State.{most}
 use Rattle.model.specs.Runs.{cutFront, clearOf, joined, joinRuns}
 use Rattle.model.specs.Calls.{noRoom, outside, notTaken, notAStart, refuse, fresh, raise, asked, failed, allocRun, tallied, cutPage, markChunk, allocChunk, allocFor, alloc, release, relisted, keepPage, dropPage, freeChunk, freeAt, free, step}
 use Rattle.rules.specs.Rules.{freeIn}
-use Rattle.numerals.specs.Numeral.{isDigit, valueOf, isNumber}
-use Rattle.lines.specs.Lines.{begins, callWith, request}
+use Rattle.script_numbers.specs.Numeral.{isDigit, valueOf, isNumber}
+use Rattle.script_lines.specs.Lines.{begins, callWith, request}
 use Rattle.printing.specs.Text.{tenTo, digits, manyPlaces, places, decimal, phrase, line}
-use Rattle.replies.specs.Replies.{refusalLine, outcomeLine, allocLine, freeLine, replyLine}
-use Rattle.summary.specs.Summary.{summaryLine}
+use Rattle.script_replies.specs.Replies.{refusalLine, outcomeLine, allocLine, freeLine, replyLine}
+use Rattle.script_summary.specs.Summary.{summaryLine}
 use Rattle.script.specs.Script.{reply, next, summary, exchange, transcript, printout}
 use Rattle.script.specs.Example.{WholeCase}
 

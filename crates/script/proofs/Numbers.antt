@@ -11,7 +11,7 @@ use lib.ListN.{length, getD}
 use borrow.Author.Tests.{lt-ltb, le-leb, eq-eqb, ne-eqb, ltb-true, ltb-false}
 use Rattle.base.specs.Tests.{pick}
 use Rattle.base.proofs.AllBelow.{pick-no, pick-both, if-asked, _&_, all-of, at-all}
-use Rattle.numerals.specs.Numeral.{isDigit, valueOf, isNumber}
+use Rattle.script_numbers.specs.Numeral.{isDigit, valueOf, isNumber}
 use Rattle.printing.specs.Text.{tenTo, digits, manyPlaces, places, decimal}
 use Rattle.printing.proofs.Digits.{ten-pos, length-digits, places-few}
 

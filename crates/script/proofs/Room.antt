@@ -14,12 +14,12 @@ use Rattle.answers.specs.declared.Refusal.the-variants.{Unreadable}
 use Rattle.model.specs.State.{State}
 use Rattle.model.specs.Calls.{Call, Alloc, Free, step}
 use Rattle.demands.specs.Calls.{outcome, answered}
-use Rattle.lines.specs.Lines.{before, lines, begins, request}
-use Rattle.lines.proofs.Words.{begins-long}
+use Rattle.script_lines.specs.Lines.{before, lines, begins, request}
+use Rattle.script_lines.proofs.Words.{begins-long}
 use Rattle.printing.specs.Text.{digits, places, decimal, phrase, line}
 use Rattle.printing.proofs.Digits.{decimal-few}
-use Rattle.replies.specs.Replies.{poolWord, atWord, noWord, backLine, refusalLine, outcomeLine, formatLine, allocLine, freeLine, replyLine}
-use Rattle.summary.specs.Summary.{freeWord, runsWord, summaryLine}
+use Rattle.script_replies.specs.Replies.{poolWord, atWord, noWord, backLine, refusalLine, outcomeLine, formatLine, allocLine, freeLine, replyLine}
+use Rattle.script_summary.specs.Summary.{freeWord, runsWord, summaryLine}
 use Rattle.rules.specs.Rules.{freeIn}
 use Rattle.script.specs.Script.{reply, replies, next, final, joined, summary, exchange}
 use Rattle.script.specs.Served.{replyOn, nextOn, repliesOn, textOn}

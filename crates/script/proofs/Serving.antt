@@ -10,11 +10,11 @@ use Rattle.answers.specs.declared.Refusal.the-variants.{Unreadable}
 use Rattle.model.specs.Calls.{Call, Alloc, Free}
 use Rattle.demands.specs.Calls.{answered, after}
 use Rattle.format.specs.Format.{formatOutcome, formatted}
-use Rattle.lines.specs.Lines.{lines, request}
+use Rattle.script_lines.specs.Lines.{lines, request}
 use Rattle.printing.specs.Text.{written, Prints}
 use Rattle.printing.proofs.Writing.{written-none, written-append}
-use Rattle.replies.specs.Replies.{refusalLine, formatLine, allocLine, freeLine, replyLine}
-use Rattle.summary.specs.Summary.{summaryOf}
+use Rattle.script_replies.specs.Replies.{refusalLine, formatLine, allocLine, freeLine, replyLine}
+use Rattle.script_summary.specs.Summary.{summaryOf}
 use Rattle.script.specs.Script.{joined}
 use Rattle.script.specs.Served.{replyOn, nextOn, Serves, repliesOn, finalOn, textOn, exchangeOn, printoutOn}
 use Rattle.script.proofs.Room.{format-few}

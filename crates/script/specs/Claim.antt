@@ -5,9 +5,9 @@ use mathlib.Core.List.{List, []}
 use Prim.Native.Nat.{ℕ, _≤_, _<_}
 use lib.ListN.{length, getD, take}
 use Rattle.model.specs.State.{State}
-use Rattle.numerals.specs.Numeral.{valueOf, isNumber}
+use Rattle.script_numbers.specs.Numeral.{valueOf, isNumber}
 use Rattle.printing.specs.Text.{decimal}
-use Rattle.lines.specs.Lines.{request}
+use Rattle.script_lines.specs.Lines.{request}
 use Rattle.script.specs.Script.{reply, replies, final, printout}
 
 pub record Claims : Type 0 where

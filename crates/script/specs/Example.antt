@@ -3,8 +3,8 @@ use mathlib.Core.Path.{_≡_}
 use Prim.Native.Nat.{ℕ}
 use mathlib.Core.List.{List, [], _∷_, _++_}
 use Rattle.printing.specs.Text.{line}
-use Rattle.replies.specs.Replies.{poolWord, atWord, noWord, backLine}
-use Rattle.summary.specs.Summary.{summaryLine}
+use Rattle.script_replies.specs.Replies.{poolWord, atWord, noWord, backLine}
+use Rattle.script_summary.specs.Summary.{summaryLine}
 use Rattle.script.specs.Script.{printout}
 
 -- `take `, `give `

@@ -10,10 +10,10 @@ use Rattle.model.specs.State.{State}
 use Rattle.model.specs.Calls.{Call, fresh, step}
 use Rattle.rules.specs.Rules.{freeIn}
 use Rattle.demands.specs.Calls.{outcome}
-use Rattle.lines.specs.Lines.{lines, request}
+use Rattle.script_lines.specs.Lines.{lines, request}
 use Rattle.printing.specs.Text.{line}
-use Rattle.replies.specs.Replies.{poolWord, refusalLine, replyLine}
-use Rattle.summary.specs.Summary.{summaryLine}
+use Rattle.script_replies.specs.Replies.{poolWord, refusalLine, replyLine}
+use Rattle.script_summary.specs.Summary.{summaryLine}
 
 -- the most bytes of a script, and the pages of its pool
 abbrev pub longest : ℕ

@@ -8,10 +8,10 @@ use Rattle.answers.specs.declared.Refusal.the-variants.{Unreadable}
 use Rattle.model.specs.Calls.{Call}
 use Rattle.format.specs.Format.{formatOutcome, formatted}
 use Rattle.demands.specs.Calls.{answered, after}
-use Rattle.lines.specs.Lines.{lines, request}
+use Rattle.script_lines.specs.Lines.{lines, request}
 use Rattle.printing.specs.Text.{written}
-use Rattle.replies.specs.Replies.{refusalLine, formatLine, replyLine}
-use Rattle.summary.specs.Summary.{summaryOf}
+use Rattle.script_replies.specs.Replies.{refusalLine, formatLine, replyLine}
+use Rattle.script_summary.specs.Summary.{summaryOf}
 use Rattle.script.specs.Script.{joined}
 
 unfoldable pub replyOn : List ℕ → Option Call → List ℕ

@@ -1,16 +1,16 @@
 // A script served on a fresh pool of 12 pages, and its whole printout written into a slice.
 use answers::Refusal;
-use lines::Request;
 use records::Offset;
+use script_lines::Request;
 ghost use mathlib.Core.Path.{_≡_};
 ghost use mathlib.Core.Option.{some};
 ghost use Prim.Native.Nat.{_+_, _*_, _≤_};
 ghost use lib.ListN.{length};
 ghost use Rattle.model.specs.Calls.{Alloc, Free};
 ghost use Rattle.format.specs.Format.{formatOutcome, formatted};
-ghost use Rattle.lines.specs.Lines.{lines, request, callOf};
+ghost use Rattle.script_lines.specs.Lines.{lines, request, callOf};
 ghost use Rattle.printing.specs.Text.{written};
-ghost use Rattle.replies.specs.Replies.{formatLine};
+ghost use Rattle.script_replies.specs.Replies.{formatLine};
 ghost use Rattle.script.specs.Script.{transcript, printout};
 ghost use Rattle.script.specs.Served.{Serves, textOn, finalOn};
 
@@ -19,14 +19,14 @@ fn serve_take(pool: &mut [u8], size: u32, out: &mut [u8], n: usize) -> usize
     requires { ⌜ n ≤ 1000000 ⌝ }
     ensures { λ r. ⌜ Serves (now (pool .entry)) (now (pool .exit)) (now (out .entry)) (now (out .exit)) n r (some (Alloc size)) ⌝ }
 {
-    replies::put_allocated(out, n, pool::alloc(pool, size))
+    script_replies::put_allocated(out, n, pool::alloc(pool, size))
 }
 
 fn serve_give(pool: &mut [u8], at: Offset, out: &mut [u8], n: usize) -> usize
     requires { ⌜ n ≤ 1000000 ⌝ }
     ensures { λ r. ⌜ Serves (now (pool .entry)) (now (pool .exit)) (now (out .entry)) (now (out .exit)) n r (some (Free (at .0))) ⌝ }
 {
-    replies::put_freed(out, n, pool::free(pool, at))
+    script_replies::put_freed(out, n, pool::free(pool, at))
 }
 
 fn serve_request(pool: &mut [u8], r: Request, out: &mut [u8], n: usize) -> usize
@@ -36,7 +36,7 @@ fn serve_request(pool: &mut [u8], r: Request, out: &mut [u8], n: usize) -> usize
     match r {
         Request::Take(size) => serve_take(pool, size, out, n),
         Request::Give(at) => serve_give(pool, at, out, n),
-        Request::Unreadable => replies::put_refusal(out, n, Refusal::Unreadable),
+        Request::Unreadable => script_replies::put_refusal(out, n, Refusal::Unreadable),
     }
 }
 
@@ -44,7 +44,7 @@ fn serve_line(pool: &mut [u8], line: &[u8], out: &mut [u8], n: usize) -> usize
     requires { ⌜ n ≤ 1000000 ⌝ }
     ensures { λ r. ⌜ Serves (now (pool .entry)) (now (pool .exit)) (now (out .entry)) (now (out .exit)) n r (request (now (line .entry))) ⌝ }
 {
-    serve_request(pool, lines::read_line(line), out, n)
+    serve_request(pool, script_lines::read_line(line), out, n)
 }
 
 fn serve_lines(pool: &mut [u8], input: &[u8], out: &mut [u8], n: usize) -> usize
@@ -54,7 +54,7 @@ fn serve_lines(pool: &mut [u8], input: &[u8], out: &mut [u8], n: usize) -> usize
     let mut next = n;
     let mut at = 0;
     while at < input.len() {
-        let end = lines::line_end(input, at);
+        let end = script_lines::line_end(input, at);
         next = serve_line(pool, &input[at..end], out, next);
         at = end + 1;
     }
@@ -64,7 +64,7 @@ fn serve_lines(pool: &mut [u8], input: &[u8], out: &mut [u8], n: usize) -> usize
 fn start(pool: &mut [u8], out: &mut [u8]) -> usize
     ensures { λ r. ⌜ (r ≡ length (formatLine (formatOutcome 2 (length (now (pool .entry)))))) × (now (out .exit) ≡ written (now (out .entry)) 0 (formatLine (formatOutcome 2 (length (now (pool .entry)))))) × (now (pool .exit) ≡ formatted 2 (now (pool .entry))) × (r ≤ 16) ⌝ }
 {
-    replies::put_formatted(out, 0, pool::format(pool))
+    script_replies::put_formatted(out, 0, pool::format(pool))
 }
 
 fn serve_fresh(pool: &mut [u8], input: &[u8], out: &mut [u8]) -> usize
@@ -73,7 +73,7 @@ fn serve_fresh(pool: &mut [u8], input: &[u8], out: &mut [u8]) -> usize
 {
     let first = start(pool, out);
     let next = serve_lines(pool, input, out, first);
-    summary::put_summary(pool, 2, out, next)
+    script_summary::put_summary(pool, 2, out, next)
 }
 
 // Serves a script of any length, and answers how long its printout is; at most 65,536 bytes.
@@ -84,5 +84,5 @@ pub fn serve(input: &[u8], out: &mut [u8]) -> usize
         let mut pool = [0u8; 49496];
         return serve_fresh(&mut pool, input, out);
     }
-    replies::put_refusal(out, 0, Refusal::ScriptTooLong)
+    script_replies::put_refusal(out, 0, Refusal::ScriptTooLong)
 }

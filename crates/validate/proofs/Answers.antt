@@ -11,7 +11,7 @@ use Rattle.base.specs.Tests.{pick, allOf}
 use Rattle.base.proofs.Tests.{both-true}
 use Rattle.model.specs.Classes.{maxPages}
 use Rattle.model.proofs.Classes.{max-pages}
-use Rattle.tests.proofs.Loops.{passed}
+use Rattle.branchless.proofs.Loops.{passed}
 use Rattle.rules.specs.Bytes.{pagesIn, fieldsOf, rule1, brokenRule}
 use Rattle.validate.specs.Broken.{fromRule2, fromRule3}
 

@@ -4,7 +4,7 @@ ghost use mathlib.Core.Path.{_≡_};
 ghost use Prim.Native.Nat.{_≤_};
 ghost use lib.Dec.{eqb};
 ghost use Rattle.rules.specs.Bytes.{pagesIn, fieldsOf, brokenRule};
-ghost use Rattle.totals.specs.Scanned.{Scanned};
+ghost use Rattle.validate_totals.specs.Scanned.{Scanned};
 ghost use Rattle.validate.specs.Broken.{fromRule2, fromRule3};
 
 // The first of rules 3 to 6 that does not hold.
@@ -12,16 +12,16 @@ fn broken_list_or_count(pool: &[u8], w: u8, n: usize, t: &[u64; 11]) -> u8
     requires { ⌜ Scanned w (now pool) n (now t) ⌝ }
     ensures { λ r. ⌜ r ≡ fromRule3 (fieldsOf w (now (pool .entry))) n ⌝ }
 {
-    if !listings::free_list(pool, w, n, t) {
+    if !validate_lists::free_list(pool, w, n, t) {
         return 3;
     }
-    if !listings::class_pages_listed(pool, w, n, t) {
+    if !validate_lists::class_pages_listed(pool, w, n, t) {
         return 4;
     }
-    if !count_rules::in_use(pool, w, n, t) {
+    if !validate_counts::in_use(pool, w, n, t) {
         return 5;
     }
-    if !count_rules::counts_fit(pool, w, n, t) {
+    if !validate_counts::counts_fit(pool, w, n, t) {
         return 6;
     }
     0
@@ -33,7 +33,7 @@ fn broken_page(pool: &[u8], w: u8, n: usize) -> u8
     ensures { λ r. ⌜ r ≡ fromRule2 (fieldsOf w (now (pool .entry))) n ⌝ }
 {
     let mut t = [0u64; 11];
-    if !tally::scan(pool, w, n, &mut t) {
+    if !validate_pages::scan(pool, w, n, &mut t) {
         return 2;
     }
     broken_list_or_count(pool, w, n, &t)
@@ -43,8 +43,8 @@ fn broken_page(pool: &[u8], w: u8, n: usize) -> u8
 pub fn broken_rule(pool: &[u8], w: u8) -> u8
     ensures { λ r. ⌜ r ≡ brokenRule w (now (pool .entry)) ⌝ }
 {
-    let n = length_rule::page_count(w, pool.len());
-    if !length_rule::header_fits(pool, w, n) {
+    let n = validate_length::page_count(w, pool.len());
+    if !validate_length::header_fits(pool, w, n) {
         return 1;
     }
     broken_page(pool, w, n)

@@ -1,8 +1,8 @@
 use mathlib.Core.Path.{_≡_}
 use Prim.Native.Nat.{_-_, _≤_}
 use lib.ListN.{length}
-use Rattle.extents.specs.Extents.{filled}
-use Rattle.extents.proofs.Steps.{fills}
+use Rattle.run_extents.specs.Extents.{filled}
+use Rattle.run_extents.proofs.Steps.{fills}
 use Rattle.run_records.proofs.fill.Statement.{statement}
 use Rattle.run_records.proofs.fill.Tie as tie
 

@@ -4,7 +4,7 @@ use Prim.Native.Nat.{_+_, _-_, _≤_}
 use native.Mathlib.Omega.{arith}
 use lib.ListN.{length, drop, drop-of-length-le}
 use borrow.Author.Needs.{needs}
-use Rattle.lines.specs.Lines.{lines}
+use Rattle.script_lines.specs.Lines.{lines}
 use Rattle.script.proofs.Serving.{Left, left-all, left-as, left-more, left-none}
 use Rattle.script.proofs.Room.{text-fits}
 use Rattle.script.proofs.serve_lines.Statement.{statement}

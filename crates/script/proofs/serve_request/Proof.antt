@@ -1,6 +1,6 @@
 use borrow.Author.Needs.{needs}
 use mathlib.Core.Path.{refl, sym, ap}
-use Rattle.lines.specs.Lines.{callOf}
+use Rattle.script_lines.specs.Lines.{callOf}
 use Rattle.script.proofs.Serving.{none-served, served-as}
 use Rattle.script.proofs.serve_request.Statement.{statement}
 use Rattle.script.proofs.serve_request.Tie as tie

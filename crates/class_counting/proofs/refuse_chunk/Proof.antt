@@ -1,0 +1,25 @@
+use Rattle.classes.specs.Classes.{chunkRefused}
+use borrow.Author.Needs.{needs}
+use Rattle.class_counting.proofs.refuse_chunk.Statement.{statement}
+use Rattle.class_counting.proofs.refuse_chunk.Tie as tie
+
+get-class-requires : tie.Need-get-class-requires
+get-class-requires c κs = search needs
+
+none-used-requires : tie.Need-none-used-requires
+none-used-requires c κs = search needs
+
+put-class-requires : tie.Need-put-class-requires
+put-class-requires c κs = search needs
+
+same-length : tie.Need-same-length
+same-length c = search needs
+
+returns : tie.Need-returns
+unfolding chunkRefused
+returns c = rw (c .before .before .before .none-used .ensures, c .before .before .before .before .before .get-class .ensures) at (c .before .before .put-class .ensures)
+
+pub refuse-chunk-spec : {M : Type 1} → statement M
+refuse-chunk-spec =
+    tie.close
+    (tie.spec get-class-requires none-used-requires put-class-requires same-length returns)

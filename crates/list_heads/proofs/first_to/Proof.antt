@@ -1,0 +1,9 @@
+use mathlib.Core.Path.{refl}
+use Rattle.list_heads.proofs.first_to.Statement.{statement}
+use Rattle.list_heads.proofs.first_to.Tie as tie
+
+returns : tie.Need-returns
+returns c = refl
+
+pub first-to-spec : {M : Type 1} → statement M
+first-to-spec = tie.close (tie.spec returns)

@@ -1,0 +1,43 @@
+-- How full a class page is, by the words of its map. A map is named by the number k of its first word.
+use Prim.Native.Nat.{ℕ, _+_, _*_, _/_}
+use mathlib.Core.Bool.{Bool, true, false}
+use mathlib.Core.List.{List}
+use lib.Dec.{eqb, ltb}
+use Rattle.base.specs.Functions.{upd}
+use Rattle.base.specs.Tests.{pick, allBelow}
+use Rattle.words.specs.Word.{word}
+use Rattle.maps.specs.Bitmap.{bitsOf}
+use Rattle.model.specs.Classes.{chunks, own}
+use Rattle.map_count.specs.Popcount.{mapBits}
+
+-- the m words from k on are those of the marks e
+unfoldable pub marksAre : List ℕ → ℕ → ℕ → (ℕ → Bool) → Bool
+marksAre s k m e = allBelow (λ j. eqb (word s (k + j)) (bitsOf (λ b. e (64 * j + b)) 64)) m
+
+-- the marks of a full page of class c
+unfoldable pub fullMarks : ℕ → ℕ → Bool
+fullMarks c b = ltb b (chunks c)
+
+-- the map's own
+unfoldable pub ownMarks : ℕ → ℕ → Bool
+ownMarks c b = ltb b (own c)
+
+unfoldable pub isFull : List ℕ → ℕ → ℕ → Bool
+isFull s k c = marksAre s k (mapBits c / 64) (fullMarks c)
+
+-- chunk i alone is free
+unfoldable pub lastFree : List ℕ → ℕ → ℕ → ℕ → Bool
+lastFree s k c i = marksAre s k (mapBits c / 64) (upd (fullMarks c) i false)
+
+-- chunk i alone is in a caller's hands
+unfoldable pub lastTaken : List ℕ → ℕ → ℕ → ℕ → Bool
+lastTaken s k c i = marksAre s k (mapBits c / 64) (upd (ownMarks c) i true)
+
+-- ---- as the code compares
+
+-- word j of a map that has `odd` as word `at`, and else begins with `first` and goes on with `rest`
+unfoldable pub expected : ℕ → ℕ → ℕ → ℕ → ℕ → ℕ
+expected first rest at odd j = pick (eqb j at) odd (pick (eqb j 0) first rest)
+
+unfoldable pub wordsAre : List ℕ → ℕ → ℕ → ℕ → ℕ → ℕ → ℕ → Bool
+wordsAre s k m first rest at odd = allBelow (λ j. eqb (word s (k + j)) (expected first rest at odd j)) m

@@ -1,0 +1,51 @@
+use borrow.Author.Needs.{needs}
+use mathlib.Core.Path.{ap}
+use Rattle.format.specs.Format.{outcomeOf}
+use Rattle.script_replies.proofs.Spoken.{granted-format, refused-format}
+use Rattle.script_replies.proofs.put_formatted.Statement.{statement}
+use Rattle.script_replies.proofs.put_formatted.Tie as tie
+
+enum-known-f : tie.Need-enum-known-f
+enum-known-f c = search needs
+
+slice-aggregate-put-line : tie.Need-slice-aggregate-put-line
+slice-aggregate-put-line c = search needs
+
+cast-put-line : tie.Need-cast-put-line
+cast-put-line c = search needs
+
+put-line-requires : tie.Need-put-line-requires
+put-line-requires c κs = search needs
+
+enum-known-f-2 : tie.Need-enum-known-f-2
+enum-known-f-2 c = search needs
+
+put-refusal-requires : tie.Need-put-refusal-requires
+put-refusal-requires c κs = search needs
+
+same-length : tie.Need-same-length
+same-length c = search needs
+
+returns : tie.Need-returns
+returns c = granted-format _ _ _ _ _ _ (ap outcomeOf (c .before .before .before .before .before .before .f .given .1)) (c .before .before .put-line .ensures)
+
+same-length-2 : tie.Need-same-length-2
+same-length-2 c = search needs
+
+returns-2 : tie.Need-returns-2
+returns-2 c = refused-format _ _ _ _ _ _ (ap outcomeOf (c .before .before .before .before .before .f2 .given .1)) (c .before .before .put-refusal .ensures)
+
+pub put-formatted-spec : {M : Type 1} → statement M
+put-formatted-spec =
+    tie.close
+    (tie.spec
+    enum-known-f
+    slice-aggregate-put-line
+    cast-put-line
+    put-line-requires
+    enum-known-f-2
+    put-refusal-requires
+    same-length
+    returns
+    same-length-2
+    returns-2)

@@ -1,0 +1,33 @@
+use borrow.Author.Needs.{needs}
+use Rattle.script_replies.proofs.Spoken.{prints-refusal}
+use Rattle.script_replies.proofs.put_refusal.Statement.{statement}
+use Rattle.script_replies.proofs.put_refusal.Tie as tie
+
+slice-aggregate-put-line : tie.Need-slice-aggregate-put-line
+slice-aggregate-put-line c = search needs
+
+number-requires : tie.Need-number-requires
+number-requires c κs = search needs
+
+cast-put-line : tie.Need-cast-put-line
+cast-put-line c = search needs
+
+put-line-requires : tie.Need-put-line-requires
+put-line-requires c κs = search needs
+
+same-length : tie.Need-same-length
+same-length c = search needs
+
+returns : tie.Need-returns
+returns c = prints-refusal _ _ _ _ _ _ (c .before .before .before .number .ensures) (c .before .before .put-line .ensures)
+
+pub put-refusal-spec : {M : Type 1} → statement M
+put-refusal-spec =
+    tie.close
+    (tie.spec
+    slice-aggregate-put-line
+    number-requires
+    cast-put-line
+    put-line-requires
+    same-length
+    returns)

@@ -1,0 +1,53 @@
+// The answers of the calls, printed as lines into a slice from place n on; each function answers the place after its line.
+use allocating::Allocated;
+use answers::Refusal;
+use format::Formatted;
+use freeing::Freed;
+use printing::put_line;
+use printing::put_text;
+ghost use Prim.Native.Nat.{_≤_};
+ghost use Rattle.format.specs.Format as formats;
+ghost use Rattle.allocating.specs.Allocating as allocs;
+ghost use Rattle.freeing.specs.Freeing as frees;
+ghost use Rattle.printing.specs.Text.{Prints};
+ghost use Rattle.script_replies.specs.Replies.{refusalLine, formatLine, allocLine, freeLine};
+
+pub fn put_refusal(out: &mut [u8], n: usize, r: Refusal) -> usize
+    requires { ⌜ n ≤ 1000000 ⌝ }
+    ensures { λ m. ⌜ Prints (now (out .entry)) (now (out .exit)) n m (refusalLine r) ⌝ }
+{
+    put_line(out, n, b"no ", answers::number(r) as u32)
+}
+
+pub fn put_formatted(out: &mut [u8], n: usize, f: Formatted) -> usize
+    requires { ⌜ n ≤ 1000000 ⌝ }
+    ensures { λ m. ⌜ Prints (now (out .entry)) (now (out .exit)) n m (formatLine (formats.outcomeOf f)) ⌝ }
+{
+    match f {
+        Formatted::Pages(pages) => put_line(out, n, b"pool ", pages as u32),
+        Formatted::Refused(r) => put_refusal(out, n, r),
+    }
+}
+
+pub fn put_allocated(out: &mut [u8], n: usize, a: Allocated) -> usize
+    requires { ⌜ n ≤ 1000000 ⌝ }
+    ensures { λ m. ⌜ Prints (now (out .entry)) (now (out .exit)) n m (allocLine (allocs.outcomeOf a)) ⌝ }
+{
+    match a {
+        Allocated::At(o) => {
+            let at = o.0;
+            put_line(out, n, b"at ", at)
+        }
+        Allocated::Refused(r) => put_refusal(out, n, r),
+    }
+}
+
+pub fn put_freed(out: &mut [u8], n: usize, f: Freed) -> usize
+    requires { ⌜ n ≤ 1000000 ⌝ }
+    ensures { λ m. ⌜ Prints (now (out .entry)) (now (out .exit)) n m (freeLine (frees.outcomeOf f)) ⌝ }
+{
+    match f {
+        Freed::Done => put_text(out, n, b"back\n"),
+        Freed::Refused(r) => put_refusal(out, n, r),
+    }
+}

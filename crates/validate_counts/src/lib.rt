@@ -1,0 +1,52 @@
+// Rules 5 and 6 of a pool that was scanned: chunks in use, and the counts of header and class records.
+use validate_pages::FAULTS;
+use validate_pages::FREE;
+ghost use mathlib.Core.Path.{_≡_};
+ghost use Prim.Native.Nat.{_<_};
+ghost use Rattle.base.specs.Tests.{allBelow};
+ghost use Rattle.rules.specs.Rules.{rule5, rule6, countsFit};
+ghost use Rattle.rules.specs.Bytes.{fieldsOf};
+ghost use Rattle.validate_totals.specs.Scanned.{Scanned};
+
+// Rule 5: no page is without a chunk in a caller's hands.
+pub fn in_use(pool: &[u8], w: u8, n: usize, t: &[u64; 11]) -> bool
+    requires { ⌜ Scanned w (now pool) n (now t) ⌝ }
+    ensures { λ r. ⌜ r ≡ rule5 (fieldsOf w (now (pool .entry))) n ⌝ }
+{
+    validate_totals::low(t, FAULTS) == 0
+}
+
+fn class_counts(pool: &[u8], w: u8, n: usize, t: &[u64; 11], c: u8) -> bool
+    requires { ⌜ Scanned w (now pool) n (now t) × (c < 9) ⌝ }
+    ensures { λ r. ⌜ r ≡ countsFit (fieldsOf w (now (pool .entry))) n c ⌝ }
+{
+    let r = record_class::get_class(pool, w, c);
+    let used = validate_totals::low(t, c as usize);
+    let total = validate_totals::middle(t, c as usize) * classes::total_count(c) as u64;
+    branchless::both(r.used as u64 == used, r.total as u64 == total)
+}
+
+fn all_counts(pool: &[u8], w: u8, n: usize, t: &[u64; 11]) -> bool
+    requires { ⌜ Scanned w (now pool) n (now t) ⌝ }
+    ensures { λ r. ⌜ r ≡ allBelow (countsFit (fieldsOf w (now (pool .entry))) n) 9 ⌝ }
+{
+    let mut c: u8 = 0;
+    while c < 9 {
+        if !class_counts(pool, w, n, t, c) {
+            return false;
+        }
+        c += 1;
+    }
+    true
+}
+
+// Rule 6.
+pub fn counts_fit(pool: &[u8], w: u8, n: usize, t: &[u64; 11]) -> bool
+    requires { ⌜ Scanned w (now pool) n (now t) ⌝ }
+    ensures { λ r. ⌜ r ≡ rule6 (fieldsOf w (now (pool .entry))) n ⌝ }
+{
+    let h = record_header::get_header(pool);
+    let free = validate_totals::low(t, FREE);
+    let fit = all_counts(pool, w, n, t);
+    branchless::both(h.free_pages as u64 == free, fit)
+}

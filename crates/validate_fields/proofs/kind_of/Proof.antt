@@ -1,0 +1,12 @@
+use borrow.Author.Needs.{needs}
+use Rattle.validate_fields.proofs.kind_of.Statement.{statement}
+use Rattle.validate_fields.proofs.kind_of.Tie as tie
+
+links-of-requires : tie.Need-links-of-requires
+links-of-requires c κs = search needs
+
+returns : tie.Need-returns
+returns c = cc
+
+pub kind-of-spec : {M : Type 1} → statement M
+kind-of-spec = tie.close (tie.spec links-of-requires returns)

@@ -1,0 +1,62 @@
+// The fields of a pool as the rules name them, read from its words. Reads are total: a page outside the pool shows zeros.
+use records::Links;
+ghost use mathlib.Core.Path.{_≡_};
+ghost use Prim.Native.Nat.{_*_, _≤_, _<_};
+ghost use Rattle.words.specs.Word.{word};
+ghost use Rattle.records.specs.Layout.{linksPlace};
+ghost use Rattle.rules.specs.Fields.{kind, map};
+ghost use Rattle.rules.specs.Rules.{kindAt};
+ghost use Rattle.rules.specs.Bytes.{fieldsOf, mapBase};
+
+pub fn links_of(pool: &[u8], w: u8, p: usize) -> Links
+    requires { ⌜ p ≤ 131072 ⌝ }
+    ensures { λ r. ⌜ r ≡ fieldsOf w (now (pool .entry)) .image .links p ⌝ }
+{
+    record_page::unpack_links(cells::get_word(pool, 2 + 9 * w as usize + 2 * p))
+}
+
+// The word that holds the links of page p.
+pub fn links_word(pool: &[u8], w: u8, p: usize) -> u64
+    requires { ⌜ p ≤ 131072 ⌝ }
+    ensures { λ r. ⌜ r ≡ word (now (pool .entry)) (linksPlace w p) ⌝ }
+{
+    cells::get_word(pool, 2 + 9 * w as usize + 2 * p)
+}
+
+pub fn kind_of(pool: &[u8], w: u8, p: usize) -> u8
+    requires { ⌜ p ≤ 131072 ⌝ }
+    ensures { λ r. ⌜ r ≡ kind (fieldsOf w (now (pool .entry))) p ⌝ }
+{
+    let l = links_of(pool, w, p);
+    l.kind
+}
+
+// Whether p is one of the n pages and of this kind.
+pub fn kind_at(pool: &[u8], w: u8, n: usize, want: u8, p: usize) -> bool
+    requires { ⌜ n ≤ 65535 ⌝ }
+    ensures { λ r. ⌜ r ≡ kindAt (fieldsOf w (now (pool .entry))) n want p ⌝ }
+{
+    if p < n {
+        return kind_of(pool, w, p) == want;
+    }
+    false
+}
+
+pub fn map_of(pool: &[u8], w: u8, p: usize) -> u64
+    requires { ⌜ p ≤ 131072 ⌝ }
+    ensures { λ r. ⌜ r ≡ map (fieldsOf w (now (pool .entry))) p ⌝ }
+{
+    cells::get_word(pool, 1 + 9 * w as usize + 2 * p)
+}
+
+// The word at which the map of page p of n begins, where the page is of class c.
+pub fn map_at(w: u8, n: usize, p: usize, c: u8) -> usize
+    requires { ⌜ (n ≤ 65535) × (p ≤ 65535) ⌝ }
+    ensures { λ r. ⌜ (8 * r ≡ mapBase w n p c) × (r < 67108864) ⌝ }
+{
+    if c < 3 {
+        1 + 9 * w as usize + 2 * n + 512 * p
+    } else {
+        1 + 9 * w as usize + 2 * p
+    }
+}

@@ -1,0 +1,147 @@
+// Rule 2 for free runs and taken runs, a run at a time: the pages after its first are told by their words.
+use records::FIRST_FREE;
+use records::INSIDE_TAKEN;
+use records::NO_PAGE;
+ghost use mathlib.Core.Path.{_≡_};
+ghost use Prim.Native.Nat.{_+_, _≤_, _<_};
+ghost use Rattle.records.specs.Page.{unpackLinks};
+ghost use Rattle.rules.specs.Rules.{endsFree, endsTaken};
+ghost use Rattle.rules.specs.Bytes.{fieldsOf};
+ghost use Rattle.validate_runs.specs.Whole.{plainAt, plainFrom, lastPlain, freeInside, freeRest, freeWhole, takenRest, takenWhole};
+
+// The links of a page inside a free run, but for its last: next and previous none, the rest 0.
+const FREE_LINKS: u64 = 2199023255040;
+// Of the last page of the run that page 0 begins; previous is from bit 9 on.
+const LAST_LINKS: u64 = 2198989701120;
+// Of a page inside a taken run: kind 4, next and previous none, the rest 0.
+const TAKEN_LINKS: u64 = 9223374235878030848;
+
+// Whether page p has the links of the word v and no map.
+fn plain_at(pool: &[u8], w: u8, p: usize, v: u64) -> bool
+    requires { ⌜ p ≤ 131072 ⌝ }
+    ensures { λ r. ⌜ r ≡ plainAt w (now (pool .entry)) v p ⌝ }
+{
+    let links = validate_fields::links_word(pool, w, p);
+    let map = validate_fields::map_of(pool, w, p);
+    branchless::both(links == v, map == 0)
+}
+
+// Whether the `count` pages from `start` on have: the first that has not ends the loop.
+fn plain_from(pool: &[u8], w: u8, start: usize, count: usize, v: u64) -> bool
+    requires { ⌜ start + count ≤ 65536 ⌝ }
+    ensures { λ r. ⌜ r ≡ plainFrom w (now (pool .entry)) v start count ⌝ }
+{
+    let mut i = 0;
+    while i < count {
+        if !plain_at(pool, w, start + i, v) {
+            return false;
+        }
+        i += 1;
+    }
+    true
+}
+
+// Whether no free page stands at x.
+fn ends_free(pool: &[u8], w: u8, n: usize, x: usize) -> bool
+    requires { ⌜ n ≤ 65535 ⌝ }
+    ensures { λ r. ⌜ r ≡ endsFree (fieldsOf w (now (pool .entry))) n x ⌝ }
+{
+    if x < n {
+        return FIRST_FREE < validate_fields::kind_of(pool, w, x);
+    }
+    true
+}
+
+// Whether the last of the k free pages from p on leads back to p, where there are two or more.
+fn last_plain(pool: &[u8], w: u8, p: usize, k: usize) -> bool
+    requires { ⌜ (p ≤ 65535) × (k ≤ 65535) ⌝ }
+    ensures { λ r. ⌜ r ≡ lastPlain w (now (pool .entry)) p k ⌝ }
+{
+    if 1 < k {
+        return plain_at(pool, w, p + k - 1, LAST_LINKS + 512 * p as u64);
+    }
+    true
+}
+
+// The pages after the first.
+fn free_inside(pool: &[u8], w: u8, p: usize, k: usize) -> bool
+    requires { ⌜ p + k ≤ 65535 ⌝ }
+    ensures { λ r. ⌜ r ≡ freeInside w (now (pool .entry)) p k ⌝ }
+{
+    if last_plain(pool, w, p, k) {
+        plain_from(pool, w, p + 1, branchless::minus(k, 2), FREE_LINKS)
+    } else {
+        false
+    }
+}
+
+// And the page after the run.
+fn free_rest(pool: &[u8], w: u8, n: usize, p: usize, k: usize) -> bool
+    requires { ⌜ (n ≤ 65535) × (p + k ≤ n) ⌝ }
+    ensures { λ r. ⌜ r ≡ freeRest w (now (pool .entry)) n p k ⌝ }
+{
+    if ends_free(pool, w, n, p + k) {
+        free_inside(pool, w, p, k)
+    } else {
+        false
+    }
+}
+
+// Whether the free run that page p begins, with the links of the word v, keeps rule 2.
+pub fn free_whole(pool: &[u8], w: u8, n: usize, p: usize, v: u64) -> bool
+    requires { ⌜ (n ≤ 65535) × (p < n) ⌝ }
+    ensures { λ r. ⌜ r ≡ freeWhole w (now (pool .entry)) n p (unpackLinks v) ⌝ }
+{
+    let l = record_page::unpack_links(v);
+    let k = l.run as usize;
+    let map = validate_fields::map_of(pool, w, p);
+    if branchless::all4(l.class == 0, map == 0, 0 < k, p + k <= n) {
+        free_rest(pool, w, n, p, k)
+    } else {
+        false
+    }
+}
+
+// Whether no page inside a taken run stands at x.
+fn ends_taken(pool: &[u8], w: u8, n: usize, x: usize) -> bool
+    requires { ⌜ n ≤ 65535 ⌝ }
+    ensures { λ r. ⌜ r ≡ endsTaken (fieldsOf w (now (pool .entry))) n x ⌝ }
+{
+    if x < n {
+        return validate_fields::kind_of(pool, w, x) != INSIDE_TAKEN;
+    }
+    true
+}
+
+fn taken_rest(pool: &[u8], w: u8, n: usize, p: usize, k: usize) -> bool
+    requires { ⌜ (n ≤ 65535) × (0 < k) × (p + k ≤ n) ⌝ }
+    ensures { λ r. ⌜ r ≡ takenRest w (now (pool .entry)) n p k ⌝ }
+{
+    if ends_taken(pool, w, n, p + k) {
+        plain_from(pool, w, p + 1, k - 1, TAKEN_LINKS)
+    } else {
+        false
+    }
+}
+
+// Whether the taken run that page p begins, with the links of the word v, keeps rule 2.
+pub fn taken_whole(pool: &[u8], w: u8, n: usize, p: usize, v: u64) -> bool
+    requires { ⌜ (n ≤ 65535) × (p < n) ⌝ }
+    ensures { λ r. ⌜ r ≡ takenWhole w (now (pool .entry)) n p (unpackLinks v) ⌝ }
+{
+    let l = record_page::unpack_links(v);
+    let k = l.run as usize;
+    let map = validate_fields::map_of(pool, w, p);
+    if branchless::all6(
+        l.class == 0,
+        map == 0,
+        l.next.0 == NO_PAGE,
+        l.prev.0 == NO_PAGE,
+        0 < k,
+        p + k <= n,
+    ) {
+        taken_rest(pool, w, n, p, k)
+    } else {
+        false
+    }
+}

@@ -1,0 +1,108 @@
+// Walks along the lists of a pool whose pages keep rule 2: with as many pages to come as belong on the list, a walk ends.
+use records::CLASS_PAGE;
+use records::FIRST_FREE;
+use records::NO_PAGE;
+ghost use mathlib.Core.Path.{_≡_};
+ghost use mathlib.Core.Bool.{true, false, not};
+ghost use Prim.Native.Nat.{_/_, _≤_, _<_};
+ghost use lib.Dec.{eqb};
+ghost use Rattle.base.specs.Tests.{pick};
+ghost use Rattle.records.specs.Layout.{noPage};
+ghost use Rattle.rules.specs.Fields.{kind, class, next, prev};
+ghost use Rattle.rules.specs.Read.{isHead, openAt};
+ghost use Rattle.rules.specs.Rules.{rule2, linked};
+ghost use Rattle.rules.specs.Bytes.{pagesIn, mapBase, fieldsOf};
+ghost use Rattle.map_occupancy.specs.Occupancy.{isFull};
+ghost use Rattle.validate_walk.specs.Walk.{belongs};
+
+// No page, as a number of pages.
+const NONE: usize = NO_PAGE as usize;
+
+fn next_of(pool: &[u8], w: u8, p: usize) -> usize
+    requires { ⌜ p ≤ 65535 ⌝ }
+    ensures { λ r. ⌜ (r ≡ next (fieldsOf w (now (pool .entry))) p) × (r ≤ 65535) ⌝ }
+{
+    let l = validate_fields::links_of(pool, w, p);
+    l.next.0 as usize
+}
+
+fn leads_back(pool: &[u8], w: u8, p: usize, before: usize) -> bool
+    requires { ⌜ p ≤ 65535 ⌝ }
+    ensures { λ r. ⌜ r ≡ eqb (prev (fieldsOf w (now (pool .entry))) p) before ⌝ }
+{
+    let l = validate_fields::links_of(pool, w, p);
+    l.prev.0 as usize == before
+}
+
+// Whether p is the first page of a free run.
+fn is_head(pool: &[u8], w: u8, n: usize, p: usize) -> bool
+    requires { ⌜ n ≤ 65535 ⌝ }
+    ensures { λ r. ⌜ r ≡ isHead (fieldsOf w (now (pool .entry))) n p ⌝ }
+{
+    if p < n {
+        return validate_fields::kind_of(pool, w, p) == FIRST_FREE;
+    }
+    false
+}
+
+fn not_full(pool: &[u8], w: u8, n: usize, c: u8, p: usize) -> bool
+    requires { ⌜ (p < n) × (n ≤ 65535) ⌝ }
+    ensures { λ r. ⌜ r ≡ not (isFull (now (pool .entry)) (mapBase w n p c / 8) c) ⌝ }
+{
+    !map_occupancy::is_full(pool, validate_fields::map_at(w, n, p, c), c)
+}
+
+fn open_inside(pool: &[u8], w: u8, n: usize, c: u8, p: usize) -> bool
+    requires { ⌜ (p < n) × (n ≤ 65535) ⌝ }
+    ensures { λ r. ⌜ r ≡ pick (pick (eqb (kind (fieldsOf w (now (pool .entry))) p) 2) (eqb (class (fieldsOf w (now (pool .entry))) p) c) false) (not (isFull (now (pool .entry)) (mapBase w n p c / 8) c)) false ⌝ }
+{
+    let l = validate_fields::links_of(pool, w, p);
+    if branchless::both(l.kind == CLASS_PAGE, l.class == c) {
+        not_full(pool, w, n, c, p)
+    } else {
+        false
+    }
+}
+
+// Whether p is a page of class c with a clear mark.
+fn is_open(pool: &[u8], w: u8, n: usize, c: u8, p: usize) -> bool
+    requires { ⌜ (n ≡ pagesIn w (now pool)) × (n ≤ 65535) × (c ≤ 8) × (rule2 (fieldsOf w (now pool)) n ≡ true) ⌝ }
+    ensures { λ r. ⌜ r ≡ openAt (fieldsOf w (now (pool .entry))) n c p ⌝ }
+{
+    if p < n {
+        return open_inside(pool, w, n, c, p);
+    }
+    false
+}
+
+fn on_list(pool: &[u8], w: u8, n: usize, c: u8, p: usize) -> bool
+    requires { ⌜ (n ≡ pagesIn w (now pool)) × (n ≤ 65535) × (rule2 (fieldsOf w (now pool)) n ≡ true) ⌝ }
+    ensures { λ r. ⌜ r ≡ belongs (fieldsOf w (now (pool .entry))) n c p ⌝ }
+{
+    if c < 9 {
+        return is_open(pool, w, n, c, p);
+    }
+    is_head(pool, w, n, p)
+}
+
+// Follows next from `first` over `count` pages of list c, after which the list ends.
+pub fn follow(pool: &[u8], w: u8, n: usize, c: u8, count: usize, first: usize) -> bool
+    requires { ⌜ (n ≡ pagesIn w (now pool)) × (n ≤ 65535) × (rule2 (fieldsOf w (now pool)) n ≡ true) × (first ≤ 65535) ⌝ }
+    ensures { λ r. ⌜ r ≡ linked (belongs (fieldsOf w (now (pool .entry))) n c) (next (fieldsOf w (now (pool .entry)))) (prev (fieldsOf w (now (pool .entry)))) count noPage first ⌝ }
+{
+    let mut before = NONE;
+    let mut at = first;
+    let mut left = count;
+    while 0 < left {
+        if !on_list(pool, w, n, c, at) {
+            return false;
+        }
+        if !leads_back(pool, w, at, before) {
+            return false;
+        }
+        before = at;
+        at = next_of(pool, w, at);
+        left -= 1;
+    }
+    at == NONE
+}
