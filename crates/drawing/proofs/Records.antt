@@ -1,7 +1,7 @@
 -- Records written back as they stand change nothing, and painting leaves bytes.
 use mathlib.Core.Path.{_≡_, refl, sym}
 use mathlib.Core.List.{List}
-use Prim.Native.Nat.{ℕ, zero, suc, _-_, _%_, _≤_, _<_}
+use Prim.Native.Nat.{ℕ, zero, suc, _%_, _≤_, _<_}
 use native.Mathlib.Omega.{arith}
 use Rattle.words.specs.Word.{Bytes, word, setWord}
 use Rattle.words.proofs.Laws.{word-small, setWord-back, setWord-keeps}

@@ -1,5 +1,5 @@
 -- An image whose fields are numbers of their widths, and that its changes keep it so.
-use Prim.Native.Nat.{ℕ, _-_, _≤_, _<_}
+use Prim.Native.Nat.{ℕ, _≤_, _<_}
 use native.Mathlib.Omega.{arith}
 use Rattle.base.proofs.Functions.{upd-keeps}
 use Rattle.records.specs.declared.ClassRecord.{ClassRecord}

@@ -87,9 +87,6 @@ byte-is b m h e =
     let z : b / 2 ^ 0 ≡ b = omega arith in
     sym z ∙ sym (bits-of 8 b 8 h (omega arith)) ∙ bits-ext (bitOf b) m 8 e
 
-pub byte-ext : (b c : ℕ) → b < 256 → c < 256 → ((j : ℕ) → j < 8 → bitOf b j ≡ bitOf c j) → b ≡ c
-byte-ext b c h k e = byte-is b (bitOf c) h e ∙ sym (byte-is c (bitOf c) k (λ j l. refl))
-
 -- ---- a byte with one bit set or clear
 
 pub withBit-small : (b j : ℕ) (v : Bool) → withBit b j v < 256

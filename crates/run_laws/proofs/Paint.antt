@@ -134,12 +134,6 @@ module _ (w P : ℕ) (wide : 2 ≤ w) (narrow : w ≤ 255) (top : P ≤ noPage) 
       (plain-fits 0 0 noPage (omega arith) (omega arith) (omega arith)))
       (p - a) (a + k + b) (omega (arith, N .after))
 
-  pub join-fits : {J : Image} → Fits P J → (p k a b : ℕ) → Joins P J p k a b → Fits P (joinOn J p k a b)
-  unfolding joinOn joinedOn
-  join-fits F p k a b N =
-      fits-push (joined-fits F p k a b N) (p - a) (plain 1 (a + k + b) noPage) (N .near-first) (omega (arith, N .after))
-      (plain-fits 1 (a + k + b) noPage (omega arith) (omega (arith, N .after, N .before)) (omega arith))
-
   -- ---- stores
   module _ (s : List ℕ) (room : 1 + 9 * w + 2 * P ≤ length s / 8) where
     pub fewer-paint : {J : Image} → Fits P J → (k : ℕ) → fewerFree (paint w P J s) k ≡ paint w P (setFree J (J .freePages - k)) s

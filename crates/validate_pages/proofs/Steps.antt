@@ -2,12 +2,9 @@
 use mathlib.Core.Path.{_≡_, refl, sym, _∙_, subst}
 use mathlib.Core.Logic.{_≢_}
 use mathlib.Core.List.{List}
-use Prim.Native.Nat.{ℕ, zero, suc, _-_, _*_, _/_, _^_, _≤_}
-use native.Mathlib.Omega.{arith}
-use borrow.Author.Needs.{needs}
+use Prim.Native.Nat.{ℕ, zero, suc, _*_}
 use Rattle.base.specs.Count.{count}
 use Rattle.maps.specs.Bitmap.{mark}
-use Rattle.model.specs.Classes.{chunks, own}
 use Rattle.map_count.specs.Popcount.{mapBits}
 use Rattle.rules.specs.Bytes.{pagesIn, mapBase}
 use Rattle.records.specs.declared.Links.{Links}
