@@ -1,12 +1,10 @@
 // An answer as one word, for C and other languages.
-use allocating::Allocated;
-use format::Formatted;
-use freeing::Freed;
+use answers::Allocated;
+use answers::Formatted;
+use answers::Freed;
 ghost use mathlib.Core.Path.{_≡_};
 ghost use Prim.Native.Nat.{_*_};
-ghost use Rattle.format.specs.Format as formats;
-ghost use Rattle.allocating.specs.Allocating as allocs;
-ghost use Rattle.freeing.specs.Freeing as frees;
+ghost use Rattle.answers.specs.Outcome.{ofFormat, ofAlloc, ofFree};
 ghost use Rattle.answer_words.specs.Word.{wordOf};
 
 // The refusal's number in the top byte.
@@ -17,7 +15,7 @@ fn refusal_word(n: u8) -> u64
 }
 
 pub fn formatted_word(f: Formatted) -> u64
-    ensures { λ r. ⌜ r ≡ wordOf (formats.outcomeOf f) ⌝ }
+    ensures { λ r. ⌜ r ≡ wordOf (ofFormat f) ⌝ }
 {
     match f {
         Formatted::Pages(n) => n as u64,
@@ -26,7 +24,7 @@ pub fn formatted_word(f: Formatted) -> u64
 }
 
 pub fn allocated_word(a: Allocated) -> u64
-    ensures { λ r. ⌜ r ≡ wordOf (allocs.outcomeOf a) ⌝ }
+    ensures { λ r. ⌜ r ≡ wordOf (ofAlloc a) ⌝ }
 {
     match a {
         Allocated::At(o) => {
@@ -38,7 +36,7 @@ pub fn allocated_word(a: Allocated) -> u64
 }
 
 pub fn freed_word(f: Freed) -> u64
-    ensures { λ r. ⌜ r ≡ wordOf (frees.outcomeOf f) ⌝ }
+    ensures { λ r. ⌜ r ≡ wordOf (ofFree f) ⌝ }
 {
     match f {
         Freed::Done => 0,

@@ -1,5 +1,11 @@
 -- What a call's answer says in document 01's terms: the refusal's number, 0 where the call is granted, and the value.
 use Prim.Native.Nat.{ℕ}
+use Rattle.answers.specs.declared.Formatted.{Formatted}
+use Rattle.answers.specs.declared.Formatted.the-variants as formatted
+use Rattle.answers.specs.declared.Allocated.{Allocated}
+use Rattle.answers.specs.declared.Allocated.the-variants as allocated
+use Rattle.answers.specs.declared.Freed.{Freed}
+use Rattle.answers.specs.declared.Freed.the-variants as freed
 use Rattle.answers.specs.declared.Refusal.{Refusal}
 use Rattle.answers.specs.declared.Refusal.the-variants.{TooShort, TooLong, NotSound, NoRoom, Outside, NotTaken, NotAStart, Unreadable, ScriptTooLong}
 
@@ -23,3 +29,15 @@ granted v = record { number = 0; value = v }
 
 abbrev pub refused : Refusal → Outcome
 refused r = record { number = numberOf r; value = 0 }
+
+abbrev pub ofFormat : Formatted → Outcome
+ofFormat (formatted.Pages n) = granted n
+ofFormat (formatted.Refused r) = refused r
+
+abbrev pub ofAlloc : Allocated → Outcome
+ofAlloc (allocated.At off) = granted (off .0)
+ofAlloc (allocated.Refused r) = refused r
+
+abbrev pub ofFree : Freed → Outcome
+ofFree freed.Done = granted 0
+ofFree (freed.Refused r) = refused r

@@ -1,6 +1,25 @@
-// The refusals of the public calls.
+// What the public calls answer: an enum for each, over offsets and refusals.
 ghost use mathlib.Core.Path.{_≡_};
 ghost use Rattle.answers.specs.Outcome.{numberOf};
+
+// A byte by its distance from the first page's first byte.
+pub struct Offset(pub u32);
+
+pub enum Formatted {
+    // the page count
+    Pages(u16),
+    Refused(Refusal),
+}
+
+pub enum Allocated {
+    At(Offset),
+    Refused(Refusal),
+}
+
+pub enum Freed {
+    Done,
+    Refused(Refusal),
+}
 
 pub enum Refusal {
     // format: the slice has no room for one page

@@ -1,5 +1,5 @@
 // The calls for C and other languages: a pool is a pointer and a length, an answer one word.
-use records::Offset;
+use answers::Offset;
 ghost use mathlib.Core.Path.{_≡_};
 ghost use lib.ListN.{length};
 ghost use Rattle.format.specs.Format as formats;

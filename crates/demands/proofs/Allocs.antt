@@ -22,7 +22,7 @@ use Rattle.classes.specs.Classes.{chunkRefused}
 use Rattle.chunks.specs.Chunks.{chunkTaken, pageCut}
 use Rattle.run_laws.specs.OnImage.{startOr}
 use Rattle.sizes.proofs.Laws.{class-is}
-use Rattle.allocating.specs.Allocating.{lowestOn, chunkOutcome, chunkSlice, firstOutcome, cutOutcome, cutSlice, newOutcome, newSlice, fromOutcome, fromSlice, classOutcome, classSlice, runOutcome, runSlice, pagesOutcome, pagesSlice, allocOutcome, allocSlice}
+use Rattle.alloc_sound.specs.Mirror.{lowestOn, chunkOutcome, chunkSlice, firstOutcome, cutOutcome, cutSlice, newOutcome, newSlice, fromOutcome, fromSlice, classOutcome, classSlice, runOutcome, runSlice, pagesOutcome, pagesSlice, allocOutcome, allocSlice}
 use Rattle.drawing.specs.Draw.{draw}
 use Rattle.demands.specs.Calls.{outcome}
 

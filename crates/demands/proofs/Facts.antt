@@ -40,7 +40,7 @@ use Rattle.shows.proofs.Shows.{listed-low}
 use Rattle.run_extents.specs.Extents.{fitIn}
 use Rattle.run_laws.specs.OnImage.{startOr}
 use Rattle.run_laws.proofs.Drawn.{fit-drawn}
-use Rattle.allocating.specs.Allocating.{lowestOn}
+use Rattle.alloc_sound.specs.Mirror.{lowestOn}
 
 module _ (w : ℕ) (wide : 2 ≤ w) (narrow : w ≤ 255) (s : List ℕ) (B : Bytes s) (sound : brokenRule w s ≡ 0) where
   abbrev m : State

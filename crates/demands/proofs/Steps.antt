@@ -32,8 +32,9 @@ use Rattle.run_neighbours.specs.Release.{pagesReleased}
 use Rattle.chunk_laws.specs.Claim.{Laws}
 use Rattle.chunk_laws.proofs.Laws.{claims as chunk-laws}
 use Rattle.run_laws.proofs.Drawn.{run-taken, run-released}
-use Rattle.allocating.specs.Allocating.{allocOutcome, allocSlice}
-use Rattle.freeing.specs.Freeing.{marked, freeOutcome, freeSlice}
+use Rattle.alloc_sound.specs.Mirror.{allocOutcome, allocSlice}
+use Rattle.locate.specs.Mirror.{marked}
+use Rattle.free_sound.specs.Mirror.{freeOutcome, freeSlice}
 use Rattle.demands.specs.Calls.{answered, cleared, after}
 use Rattle.demands.proofs.Calls.{sound-answer, drawn-after}
 use Rattle.demands.proofs.Allocs.{AllocFacts, alloc-does}

@@ -15,14 +15,8 @@ use Rattle.image.specs.Image.{Image, headerOf, writeAt, paint}
 use Rattle.image.specs.Update.{setLinks}
 use Rattle.answers.specs.Outcome.{Outcome, granted, refused}
 use Rattle.answers.specs.declared.Refusal.the-variants.{TooShort, TooLong}
-use Rattle.format.specs.declared.Formatted.{Formatted}
-use Rattle.format.specs.declared.Formatted.the-variants.{Pages, Refused}
 
 -- ---- the answer
-
-abbrev pub outcomeOf : Formatted → Outcome
-outcomeOf (Pages n) = granted n
-outcomeOf (Refused r) = refused r
 
 -- the least length that gives a page, and the least that gives too many
 abbrev pub shortest : ℕ → ℕ

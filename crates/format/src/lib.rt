@@ -1,4 +1,5 @@
 // Format: makes a pool of a slice. `w` is the number of words of a class record.
+use answers::Formatted;
 use answers::Refusal;
 use records::CLASS_WORD;
 use records::ClassRecord;
@@ -14,14 +15,9 @@ use records::TOO_LONG;
 ghost use mathlib.Core.Path.{_≡_};
 ghost use Prim.Native.Nat.{_≤_, _<_};
 ghost use lib.ListN.{length};
+ghost use Rattle.answers.specs.Outcome.{ofFormat};
 ghost use Rattle.image.specs.Image.{headerOf};
-ghost use Rattle.format.specs.Format.{outcomeOf, formatOutcome, emptyClass, insideFree, firstFree, formatted, filled, classesCleared, pagesCleared, runLinked, written};
-
-pub enum Formatted {
-    // the page count
-    Pages(u16),
-    Refused(Refusal),
-}
+ghost use Rattle.format.specs.Format.{formatOutcome, emptyClass, insideFree, firstFree, formatted, filled, classesCleared, pagesCleared, runLinked, written};
 
 // The header of a pool of one free run.
 fn fresh_header(w: u8, pages: u16) -> Header
@@ -128,7 +124,8 @@ fn write_records(pool: &mut [u8], w: u8, pages: u16)
 // Makes a pool of as many pages as the slice has room for. Page bytes and tail stay.
 pub fn format(pool: &mut [u8], w: u8) -> Formatted
     requires { ⌜ 2 ≤ w ⌝ }
-    ensures { λ r. ⌜ (outcomeOf r ≡ formatOutcome w (length (now (pool .entry)))) × (now (pool .exit) ≡ formatted w (now (pool .entry))) ⌝ }
+    ensures answer { λ r. ⌜ ofFormat r ≡ formatOutcome w (length (now (pool .entry))) ⌝ }
+    ensures slice { λ _. ⌜ now (pool .exit) ≡ formatted w (now (pool .entry)) ⌝ }
 {
     let len = pool.len();
     let head = HEADER + CLASS_WORD * w as usize;

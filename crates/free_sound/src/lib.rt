@@ -1,72 +1,56 @@
-// Free on sound records: only the records that change are touched.
-use answers::Refusal;
-use freeing::Freed;
-use records::CLASS_PAGE;
-use records::FIRST_FREE;
-use records::FIRST_TAKEN;
-use records::Links;
-use records::Offset;
-use records::PAGE;
+// Free on sound records: what begins at the offset is given back, and only the records that change are touched.
+// `w` is the number of words of a class record, `pages` the pages of the pool.
+use answers::Freed;
+use answers::Offset;
+use locate::ChunkAt;
+use locate::Found;
+use locate::RunAt;
 use records::PageNumber;
 ghost use mathlib.Core.Path.{_≡_};
-ghost use Rattle.answers.specs.Outcome.{granted};
+ghost use Prim.Native.Nat.{_%_};
+ghost use Rattle.answers.specs.Outcome.{granted, ofFree};
+ghost use Rattle.chunks.specs.Chunks.{chunkFreed};
 ghost use Rattle.run_neighbours.specs.Release.{pagesReleased};
-ghost use Rattle.freeing.specs.Freeing.{outcomeOf, runOutcome, runSlice, kindOutcome, kindSlice, pageOutcome, pageSlice, freeOutcome, freeSlice};
+ghost use Rattle.free_sound.specs.Mirror.{foundOutcome, foundSlice, freeOutcome, freeSlice};
 
-fn release(pool: &mut [u8], w: u8, pages: u16, n: u16, p: PageNumber) -> Freed
-    ensures { λ r. ⌜ (outcomeOf r ≡ granted 0) × (now (pool .exit) ≡ pagesReleased w (now (pool .entry)) pages (p .0) n) ⌝ }
-{
-    run_free::release(pool, w, pages, p, n);
-    Freed::Done
-}
-
-// The run of n pages from p on, where q is its start.
-fn free_run(pool: &mut [u8], w: u8, pages: u16, n: u16, p: PageNumber, q: u32) -> Freed
-    ensures { λ r. ⌜ (outcomeOf r ≡ runOutcome q) × (now (pool .exit) ≡ runSlice w (now (pool .entry)) pages n (p .0) q) ⌝ }
-{
-    if q == 0 {
-        release(pool, w, pages, n, p)
-    } else {
-        Freed::Refused(Refusal::NotAStart)
-    }
-}
-
-// By the page's kind.
-fn free_kind(pool: &mut [u8], w: u8, pages: u16, p: PageNumber, q: u32, l: Links) -> Freed
-    ensures { λ r. ⌜ (outcomeOf r ≡ kindOutcome w (now (pool .entry)) pages (p .0) q l) × (now (pool .exit) ≡ kindSlice w (now (pool .entry)) pages (p .0) q l) ⌝ }
-{
-    if l.kind <= FIRST_FREE {
-        return Freed::Refused(Refusal::NotTaken);
-    }
-    if l.kind == CLASS_PAGE {
-        return free_to_class::free_class(pool, w, pages, l.class, p, q);
-    }
-    if l.kind == FIRST_TAKEN {
-        return free_run(pool, w, pages, l.run, p, q);
-    }
-    Freed::Refused(Refusal::NotAStart)
-}
-
-fn free_page(pool: &mut [u8], w: u8, pages: u16, p: PageNumber, q: u32) -> Freed
-    ensures { λ r. ⌜ (outcomeOf r ≡ pageOutcome w (now (pool .entry)) pages (p .0) q) × (now (pool .exit) ≡ pageSlice w (now (pool .entry)) pages (p .0) q) ⌝ }
-{
-    let l = record_page::get_links(pool, w, p);
-    free_kind(pool, w, pages, p, q, l)
-}
-
-// Document 01's give, on sound records.
 pub fn free_sound(pool: &mut [u8], w: u8, pages: u16, at: Offset) -> Freed
-    ensures { λ r. ⌜ (outcomeOf r ≡ freeOutcome w (now (pool .entry)) pages (at .0)) × (now (pool .exit) ≡ freeSlice w (now (pool .entry)) pages (at .0)) ⌝ }
+    ensures answer { λ r. ⌜ ofFree r ≡ freeOutcome w (now (pool .entry)) pages (at .0) ⌝ }
+    ensures slice { λ _. ⌜ now (pool .exit) ≡ freeSlice w (now (pool .entry)) pages (at .0) ⌝ }
 {
-    let x = at.0;
-    if pages as u32 <= x / PAGE {
-        return Freed::Refused(Refusal::Outside);
+    let f = locate::locate(pool, w, pages, at);
+    give(pool, w, pages, f)
+}
+
+fn give(pool: &mut [u8], w: u8, pages: u16, f: Found) -> Freed
+    ensures answer { λ r. ⌜ ofFree r ≡ foundOutcome f ⌝ }
+    ensures slice { λ _. ⌜ now (pool .exit) ≡ foundSlice w (now (pool .entry)) pages f ⌝ }
+{
+    match f {
+        Found::Chunk(k) => give_chunk(pool, w, pages, k),
+        Found::Run(r) => give_run(pool, w, pages, r),
+        Found::Refused(x) => Freed::Refused(x),
     }
-    free_page(
+}
+
+fn give_chunk(pool: &mut [u8], w: u8, pages: u16, k: ChunkAt) -> Freed
+    ensures answer { λ r. ⌜ ofFree r ≡ granted 0 ⌝ }
+    ensures slice { λ _. ⌜ now (pool .exit) ≡ chunkFreed w (now (pool .entry)) pages (k .class) (k .page .0) (k .index % 65536) ⌝ }
+{
+    chunk_free::free_chunk(
         pool,
         w,
         pages,
-        PageNumber((x / PAGE % 65536) as u16),
-        x % PAGE,
-    )
+        k.class,
+        PageNumber(k.page.0),
+        (k.index % 65536) as u16,
+    );
+    Freed::Done
+}
+
+fn give_run(pool: &mut [u8], w: u8, pages: u16, r: RunAt) -> Freed
+    ensures answer { λ x. ⌜ ofFree x ≡ granted 0 ⌝ }
+    ensures slice { λ _. ⌜ now (pool .exit) ≡ pagesReleased w (now (pool .entry)) pages (r .page .0) (r .pages) ⌝ }
+{
+    run_free::release(pool, w, pages, PageNumber(r.page.0), r.pages);
+    Freed::Done
 }

@@ -1,20 +1,20 @@
 // The public calls, for pools of edition 1, whose class records have two words.
-use allocating::Allocated;
-use format::Formatted;
-use freeing::Freed;
-use records::Offset;
+use answers::Allocated;
+use answers::Formatted;
+use answers::Freed;
+use answers::Offset;
 ghost use mathlib.Core.Path.{_≡_};
 ghost use lib.ListN.{length};
+ghost use Rattle.answers.specs.Outcome.{ofFormat, ofAlloc, ofFree};
 ghost use Rattle.model.specs.Calls.{Alloc, Free};
 ghost use Rattle.rules.specs.Bytes.{brokenRule};
-ghost use Rattle.format.specs.Format as formats;
-ghost use Rattle.allocating.specs.Allocating as allocs;
-ghost use Rattle.freeing.specs.Freeing as frees;
+ghost use Rattle.format.specs.Format.{formatOutcome, formatted};
 ghost use Rattle.demands.specs.Calls.{answered, after};
 
 // Makes a pool of as many pages as the slice has room for: the page count, or the refusal. Page bytes and tail stay.
 pub fn format(pool: &mut [u8]) -> Formatted
-    ensures { λ r. ⌜ (formats.outcomeOf r ≡ formats.formatOutcome 2 (length (now (pool .entry)))) × (now (pool .exit) ≡ formats.formatted 2 (now (pool .entry))) ⌝ }
+    ensures answer { λ r. ⌜ ofFormat r ≡ formatOutcome 2 (length (now (pool .entry))) ⌝ }
+    ensures slice { λ _. ⌜ now (pool .exit) ≡ formatted 2 (now (pool .entry)) ⌝ }
 {
     format::format(pool, 2)
 }
@@ -28,14 +28,16 @@ pub fn broken_rule(pool: &[u8]) -> u8
 
 // Takes a block of at least `size` bytes: its offset, or the refusal.
 pub fn alloc(pool: &mut [u8], size: u32) -> Allocated
-    ensures { λ r. ⌜ (allocs.outcomeOf r ≡ answered 2 (now (pool .entry)) (Alloc size)) × (now (pool .exit) ≡ after 2 (now (pool .entry)) (Alloc size)) ⌝ }
+    ensures answer { λ r. ⌜ ofAlloc r ≡ answered 2 (now (pool .entry)) (Alloc size) ⌝ }
+    ensures slice { λ _. ⌜ now (pool .exit) ≡ after 2 (now (pool .entry)) (Alloc size) ⌝ }
 {
     calls::alloc(pool, 2, size)
 }
 
 // Gives back the block that starts at the offset.
 pub fn free(pool: &mut [u8], at: Offset) -> Freed
-    ensures { λ r. ⌜ (frees.outcomeOf r ≡ answered 2 (now (pool .entry)) (Free (at .0))) × (now (pool .exit) ≡ after 2 (now (pool .entry)) (Free (at .0))) ⌝ }
+    ensures answer { λ r. ⌜ ofFree r ≡ answered 2 (now (pool .entry)) (Free (at .0)) ⌝ }
+    ensures slice { λ _. ⌜ now (pool .exit) ≡ after 2 (now (pool .entry)) (Free (at .0)) ⌝ }
 {
     calls::free(pool, 2, at)
 }

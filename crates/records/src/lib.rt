@@ -30,6 +30,9 @@ pub const MOST_PAGES: usize = 256;
 
 pub const TOO_LONG: usize = PAGE_AND_RECORD * (MOST_PAGES + 1);
 
+// Larger blocks are whole pages.
+pub const LARGEST_CHUNK: u32 = 2048;
+
 // Counts of chunks have 24 bits; tallies stop at the largest number of 32 bits (`most`).
 pub const COUNTS: u32 = 16777216;
 
@@ -37,9 +40,6 @@ pub const MOST_ASKS: u32 = 4294967295;
 
 // A page by its number, or NO_PAGE.
 pub struct PageNumber(pub u16);
-
-// A byte by its distance from the first page's first byte.
-pub struct Offset(pub u32);
 
 pub struct Header {
     pub edition: u8,

@@ -1,6 +1,6 @@
 // A script served on a fresh pool of 12 pages, and its whole printout written into a slice.
+use answers::Offset;
 use answers::Refusal;
-use records::Offset;
 use script_lines::Request;
 ghost use mathlib.Core.Path.{_≡_};
 ghost use mathlib.Core.Option.{some};

@@ -1,6 +1,6 @@
 // The lines of a script: where a line ends, and what it asks for.
+use answers::Offset;
 use branchless::all5;
-use records::Offset;
 ghost use mathlib.Core.Path.{_≡_};
 ghost use mathlib.Core.List.{_∷_};
 ghost use Prim.Native.Nat.{_+_, _-_, _≤_, _<_};

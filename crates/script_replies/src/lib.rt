@@ -1,14 +1,12 @@
 // The answers of the calls, printed as lines into a slice from place n on; each function answers the place after its line.
-use allocating::Allocated;
+use answers::Allocated;
+use answers::Formatted;
+use answers::Freed;
 use answers::Refusal;
-use format::Formatted;
-use freeing::Freed;
 use printing::put_line;
 use printing::put_text;
 ghost use Prim.Native.Nat.{_≤_};
-ghost use Rattle.format.specs.Format as formats;
-ghost use Rattle.allocating.specs.Allocating as allocs;
-ghost use Rattle.freeing.specs.Freeing as frees;
+ghost use Rattle.answers.specs.Outcome.{ofFormat, ofAlloc, ofFree};
 ghost use Rattle.printing.specs.Text.{Prints};
 ghost use Rattle.script_replies.specs.Replies.{refusalLine, formatLine, allocLine, freeLine};
 
@@ -21,7 +19,7 @@ pub fn put_refusal(out: &mut [u8], n: usize, r: Refusal) -> usize
 
 pub fn put_formatted(out: &mut [u8], n: usize, f: Formatted) -> usize
     requires { ⌜ n ≤ 1000000 ⌝ }
-    ensures { λ m. ⌜ Prints (now (out .entry)) (now (out .exit)) n m (formatLine (formats.outcomeOf f)) ⌝ }
+    ensures { λ m. ⌜ Prints (now (out .entry)) (now (out .exit)) n m (formatLine (ofFormat f)) ⌝ }
 {
     match f {
         Formatted::Pages(pages) => put_line(out, n, b"pool ", pages as u32),
@@ -31,7 +29,7 @@ pub fn put_formatted(out: &mut [u8], n: usize, f: Formatted) -> usize
 
 pub fn put_allocated(out: &mut [u8], n: usize, a: Allocated) -> usize
     requires { ⌜ n ≤ 1000000 ⌝ }
-    ensures { λ m. ⌜ Prints (now (out .entry)) (now (out .exit)) n m (allocLine (allocs.outcomeOf a)) ⌝ }
+    ensures { λ m. ⌜ Prints (now (out .entry)) (now (out .exit)) n m (allocLine (ofAlloc a)) ⌝ }
 {
     match a {
         Allocated::At(o) => {
@@ -44,7 +42,7 @@ pub fn put_allocated(out: &mut [u8], n: usize, a: Allocated) -> usize
 
 pub fn put_freed(out: &mut [u8], n: usize, f: Freed) -> usize
     requires { ⌜ n ≤ 1000000 ⌝ }
-    ensures { λ m. ⌜ Prints (now (out .entry)) (now (out .exit)) n m (freeLine (frees.outcomeOf f)) ⌝ }
+    ensures { λ m. ⌜ Prints (now (out .entry)) (now (out .exit)) n m (freeLine (ofFree f)) ⌝ }
 {
     match f {
         Freed::Done => put_text(out, n, b"back\n"),

@@ -1,5 +1,5 @@
 // Sizes, classes and offsets.
-use records::Offset;
+use answers::Offset;
 use records::PAGE;
 use records::PageNumber;
 ghost use mathlib.Core.Path.{_≡_};

@@ -1,4 +1,4 @@
-use Rattle.allocating.specs.Allocating.{allocOutcome, allocSlice}
+use Rattle.alloc_sound.specs.Mirror.{allocOutcome, allocSlice}
 use Rattle.base.proofs.Tests.{picks}
 use borrow.Author.Needs.{needs}
 use Rattle.alloc_sound.proofs.alloc_sound.Statement.{statement}

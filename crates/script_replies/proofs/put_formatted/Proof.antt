@@ -1,6 +1,6 @@
 use borrow.Author.Needs.{needs}
 use mathlib.Core.Path.{ap}
-use Rattle.format.specs.Format.{outcomeOf}
+use Rattle.answers.specs.Outcome.{ofFormat}
 use Rattle.script_replies.proofs.Spoken.{granted-format, refused-format}
 use Rattle.script_replies.proofs.put_formatted.Statement.{statement}
 use Rattle.script_replies.proofs.put_formatted.Tie as tie
@@ -27,13 +27,13 @@ same-length : tie.Need-same-length
 same-length c = search needs
 
 returns : tie.Need-returns
-returns c = granted-format _ _ _ _ _ _ (ap outcomeOf (c .before .before .before .before .before .before .f .given .1)) (c .before .before .put-line .ensures)
+returns c = granted-format _ _ _ _ _ _ (ap ofFormat (c .before .before .before .before .before .before .f .given .1)) (c .before .before .put-line .ensures)
 
 same-length-2 : tie.Need-same-length-2
 same-length-2 c = search needs
 
 returns-2 : tie.Need-returns-2
-returns-2 c = refused-format _ _ _ _ _ _ (ap outcomeOf (c .before .before .before .before .before .f2 .given .1)) (c .before .before .put-refusal .ensures)
+returns-2 c = refused-format _ _ _ _ _ _ (ap ofFormat (c .before .before .before .before .before .f2 .given .1)) (c .before .before .put-refusal .ensures)
 
 pub put-formatted-spec : {M : Type 1} → statement M
 put-formatted-spec =

@@ -1,6 +1,6 @@
 use borrow.Author.Needs.{needs}
 use mathlib.Core.Path.{ap}
-use Rattle.freeing.specs.Freeing.{outcomeOf}
+use Rattle.answers.specs.Outcome.{ofFree}
 use Rattle.script_replies.proofs.Spoken.{granted-free, refused-free}
 use Rattle.script_replies.proofs.put_freed.Statement.{statement}
 use Rattle.script_replies.proofs.put_freed.Tie as tie
@@ -24,13 +24,13 @@ same-length : tie.Need-same-length
 same-length c = search needs
 
 returns : tie.Need-returns
-returns c = granted-free _ _ _ _ 0 _ (ap outcomeOf (c .before .before .before .before .before .enum-told .given .1)) (c .before .before .put-text .ensures)
+returns c = granted-free _ _ _ _ 0 _ (ap ofFree (c .before .before .before .before .before .enum-told .given .1)) (c .before .before .put-text .ensures)
 
 same-length-2 : tie.Need-same-length-2
 same-length-2 c = search needs
 
 returns-2 : tie.Need-returns-2
-returns-2 c = refused-free _ _ _ _ _ _ (ap outcomeOf (c .before .before .before .before .before .f .given .1)) (c .before .before .put-refusal .ensures)
+returns-2 c = refused-free _ _ _ _ _ _ (ap ofFree (c .before .before .before .before .before .f .given .1)) (c .before .before .put-refusal .ensures)
 
 pub put-freed-spec : {M : Type 1} → statement M
 put-freed-spec =

@@ -1,0 +1,30 @@
+use Rattle.alloc_sound.specs.Mirror.{fromOutcome, fromSlice}
+use Rattle.base.proofs.Tests.{picks}
+use borrow.Author.Needs.{needs}
+use Rattle.alloc_sound.proofs.chunk_from.Statement.{statement}
+use Rattle.alloc_sound.proofs.chunk_from.Tie as tie
+
+new-page-requires : tie.Need-new-page-requires
+new-page-requires c κs = search needs
+
+chunk-of-page-requires : tie.Need-chunk-of-page-requires
+chunk-of-page-requires c κs = search needs
+
+same-length : tie.Need-same-length
+same-length c = search needs
+
+returns : tie.Need-returns
+unfolding fromOutcome fromSlice
+returns c = (search picks, search picks)
+
+same-length-2 : tie.Need-same-length-2
+same-length-2 c = search needs
+
+returns-2 : tie.Need-returns-2
+unfolding fromOutcome fromSlice
+returns-2 c = (search picks, search picks)
+
+pub chunk-from-spec : {M : Type 1} → statement M
+chunk-from-spec =
+    tie.close
+    (tie.spec new-page-requires chunk-of-page-requires same-length returns same-length-2 returns-2)

@@ -1,0 +1,79 @@
+-- Alloc on sound records, in the bytes of a pool of P pages: what is answered and what is left, in the order of the code.
+use Prim.Native.Nat.{ℕ, _+_, _*_, _%_}
+use mathlib.Core.List.{List}
+use lib.Dec.{eqb, leb}
+use Rattle.base.specs.Tests.{pick}
+use Rattle.records.specs.Layout.{noPage}
+use Rattle.answers.specs.Outcome.{Outcome, granted, refused}
+use Rattle.answers.specs.declared.Refusal.the-variants.{NoRoom}
+use Rattle.model.specs.Classes.{chunk, chunks, own, pagesFor}
+use Rattle.maps.specs.Bitmap.{lowestClear}
+use Rattle.lists.specs.Links.{firstOf}
+use Rattle.rules.specs.Bytes.{mapBase}
+use Rattle.run_extents.specs.Extents.{fitIn, runTaken}
+use Rattle.classes.specs.Classes.{chunkRefused}
+use Rattle.chunks.specs.Chunks.{chunkTaken, pageCut}
+use Rattle.sizes.specs.Sizes.{classFor}
+
+-- ---- a chunk of class c
+
+-- of page p
+unfoldable pub lowestOn : ℕ → List ℕ → ℕ → ℕ → ℕ → ℕ
+lowestOn w s P c p = lowestClear s (mapBase w P p c) (chunks c)
+
+unfoldable pub chunkOutcome : ℕ → List ℕ → ℕ → ℕ → ℕ → Outcome
+chunkOutcome w s P c p = granted (4096 * p + chunk c * lowestOn w s P c p)
+
+unfoldable pub chunkSlice : ℕ → List ℕ → ℕ → ℕ → ℕ → List ℕ
+chunkSlice w s P c p = chunkTaken w s P c p (lowestOn w s P c p)
+
+-- of a new page p, where there is one
+unfoldable pub firstOutcome : ℕ → ℕ → Outcome
+firstOutcome c p = granted (4096 * p + chunk c * own c)
+
+unfoldable pub cutOutcome : ℕ → ℕ → Outcome
+cutOutcome c p = pick (eqb p noPage) (refused NoRoom) (firstOutcome c p)
+
+unfoldable pub cutSlice : ℕ → List ℕ → ℕ → ℕ → ℕ → List ℕ
+cutSlice w s P c p = pick (eqb p noPage) (chunkRefused w s c) (pageCut w s P c p)
+
+unfoldable pub newOutcome : ℕ → List ℕ → ℕ → ℕ → Outcome
+newOutcome w s P c = cutOutcome c (fitIn w s P 1)
+
+unfoldable pub newSlice : ℕ → List ℕ → ℕ → ℕ → List ℕ
+newSlice w s P c = cutSlice w s P c (fitIn w s P 1)
+
+-- of the class list's first page p, or a new one where there is none
+unfoldable pub fromOutcome : ℕ → List ℕ → ℕ → ℕ → ℕ → Outcome
+fromOutcome w s P c p = pick (eqb p noPage) (newOutcome w s P c) (chunkOutcome w s P c p)
+
+unfoldable pub fromSlice : ℕ → List ℕ → ℕ → ℕ → ℕ → List ℕ
+fromSlice w s P c p = pick (eqb p noPage) (newSlice w s P c) (chunkSlice w s P c p)
+
+unfoldable pub classOutcome : ℕ → List ℕ → ℕ → ℕ → Outcome
+classOutcome w s P c = fromOutcome w s P c (firstOf w s (1 + c))
+
+unfoldable pub classSlice : ℕ → List ℕ → ℕ → ℕ → List ℕ
+classSlice w s P c = fromSlice w s P c (firstOf w s (1 + c))
+
+-- ---- k pages
+
+unfoldable pub runOutcome : ℕ → Outcome
+runOutcome p = pick (eqb p noPage) (refused NoRoom) (granted (4096 * p))
+
+unfoldable pub runSlice : ℕ → List ℕ → ℕ → ℕ → List ℕ
+runSlice w s k p = pick (eqb p noPage) s (runTaken w s p (k % 65536))
+
+unfoldable pub pagesOutcome : ℕ → List ℕ → ℕ → ℕ → Outcome
+pagesOutcome w s P k = runOutcome (fitIn w s P k)
+
+unfoldable pub pagesSlice : ℕ → List ℕ → ℕ → ℕ → List ℕ
+pagesSlice w s P k = runSlice w s k (fitIn w s P k)
+
+-- ---- a size
+
+unfoldable pub allocOutcome : ℕ → List ℕ → ℕ → ℕ → Outcome
+allocOutcome w s P n = pick (leb n 2048) (classOutcome w s P (classFor n)) (pagesOutcome w s P (pagesFor n))
+
+unfoldable pub allocSlice : ℕ → List ℕ → ℕ → ℕ → List ℕ
+allocSlice w s P n = pick (leb n 2048) (classSlice w s P (classFor n)) (pagesSlice w s P (pagesFor n))

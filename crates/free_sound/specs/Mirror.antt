@@ -1,0 +1,26 @@
+-- Free on sound records, in the bytes of a pool of P pages: what begins at the offset is given back.
+use Prim.Native.Nat.{ℕ, _%_}
+use mathlib.Core.List.{List}
+use Rattle.answers.specs.Outcome.{Outcome, granted, refused}
+use Rattle.run_neighbours.specs.Release.{pagesReleased}
+use Rattle.chunks.specs.Chunks.{chunkFreed}
+use Rattle.locate.specs.declared.Found.{Found}
+use Rattle.locate.specs.declared.Found.the-variants as found
+use Rattle.locate.specs.Mirror.{located}
+
+-- of what was found
+abbrev pub foundOutcome : Found → Outcome
+foundOutcome (found.Chunk k) = granted 0
+foundOutcome (found.Run r) = granted 0
+foundOutcome (found.Refused r) = refused r
+
+abbrev pub foundSlice : (w : ℕ) (s : List ℕ) (P : ℕ) → Found → List ℕ
+foundSlice w s P (found.Chunk k) = chunkFreed w s P (k .class) (k .page .0) (k .index % 65536)
+foundSlice w s P (found.Run r) = pagesReleased w s P (r .page .0) (r .pages)
+foundSlice w s P (found.Refused r) = s
+
+unfoldable pub freeOutcome : (w : ℕ) (s : List ℕ) (P off : ℕ) → Outcome
+freeOutcome w s P off = foundOutcome (located w s P off)
+
+unfoldable pub freeSlice : (w : ℕ) (s : List ℕ) (P off : ℕ) → List ℕ
+freeSlice w s P off = foundSlice w s P (located w s P off)
