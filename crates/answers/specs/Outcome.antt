@@ -1,4 +1,4 @@
--- What a call's answer says in document 01's terms: the refusal's number, 0 where the call is granted, and the value.
+-- What a call's answer says (SPEC 4.1): the refusal's number, 0 where the call is granted, and the value.
 use Prim.Native.Nat.{ℕ}
 use Rattle.answers.specs.declared.Formatted.{Formatted}
 use Rattle.answers.specs.declared.Formatted.the-variants as formatted

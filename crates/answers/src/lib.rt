@@ -42,7 +42,7 @@ pub enum Refusal {
     ScriptTooLong,
 }
 
-// The refusal's number in document 01.
+// The refusal's number (SPEC 5).
 pub fn number(r: Refusal) -> u8
     ensures { λ n. ⌜ n ≡ numberOf r ⌝ }
 {

@@ -1,4 +1,4 @@
--- Document 01's example lengths, computed.
+-- The example lengths of SPEC 9.1, computed.
 use mathlib.Core.Path.{_≡_, refl}
 use mathlib.Core.List.{List, [], _∷_}
 use Prim.Native.Nat.{ℕ}

@@ -1,4 +1,4 @@
--- The expected view of a state's live set, read in the words of document 01.
+-- The expected view of a state's live set, read in the words of SPEC 6.3.
 use mathlib.Core.Path.{_≡_, refl, sym, ap, _∙_, subst}
 use mathlib.Core.Logic.{_⊎_, inl, inr, _≢_, _↔_}
 use mathlib.Core.Bool.{Bool, true, false, cond, _||_}

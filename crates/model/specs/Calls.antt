@@ -1,4 +1,4 @@
--- The calls on a state, as document 01 tells them: `fresh` (format), `alloc` (take) and `free` (give).
+-- The calls on a state, as SPEC 4 tells them: `fresh` (format), `alloc` and `free`.
 use mathlib.Core.Bool.{Bool, true, false, cond}
 use mathlib.Core.Option.{Option, none, some}
 use mathlib.Core.List.{List, [], _∷_}
@@ -20,7 +20,7 @@ pub data Call : Type 0 where
 pub data Answer : Type 0 where
   at : ℕ → Answer  -- granted: the offset
   freed : ℕ → Answer  -- granted: the bytes released
-  no : ℕ → Answer  -- refused: the number in document 01's table
+  no : ℕ → Answer  -- refused: the number (SPEC 5)
 
 pub record Reply : Type 0 where
   pub answer : Answer

@@ -35,7 +35,7 @@ Demand3 = (P : ℕ) → 1 ≤ P → (calls : List Call) → Faithful P (runFrom 
 abbrev pub Demand3From : Type 0
 Demand3From = (w : World) → WellFormed (w .state) → LiveSet (w .live) (w .state .page) → (calls : List Call) → Faithful (w .state .size) (runFrom w calls)
 
--- how the expected view reads in the words of document 01
+-- how the expected view reads in the words of SPEC 6.3
 pub record Reads (P : ℕ) (B : List Block) : Type 0 where
   -- a page is of class c exactly when a live block of class c begins in it
   pub class-page : (p c : ℕ) → (expected P B .page p ≡ class c) ↔ ((off : ℕ) × Mem (small off c) B × (off / 4096 ≡ p))

@@ -1,4 +1,4 @@
--- Document 01's starred examples that concern calls, as one list of questions and facts.
+-- The examples of SPEC 9.1 that concern calls, and the worked case, as one list of questions and facts.
 use mathlib.Core.Path.{_≡_}
 use mathlib.Core.List.{List, [], _∷_, _++_, map}
 use Prim.Native.Nat.{ℕ}

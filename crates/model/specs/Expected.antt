@@ -1,4 +1,4 @@
--- The expected view (document 01: the picture): the five as the page count and the live set alone say them.
+-- The expected view (SPEC 6.3): the five as the page count and the live set alone say them.
 use mathlib.Core.Bool.{Bool, false, cond, _&&_, _||_, not}
 use mathlib.Core.List.{List, [], _∷_}
 use Prim.Native.Nat.{ℕ, zero, suc, _+_, _*_, _/_}

@@ -1,4 +1,4 @@
--- Live blocks: those of a state, and the live set that calls and answers alone feed (document 01: the book).
+-- Live blocks: those of a state, and the live set that calls and answers alone feed (SPEC 6.2).
 use mathlib.Core.Path.{_≡_}
 use mathlib.Core.Logic.{_⊎_}
 use mathlib.Core.Bool.{Bool, true, cond, _&&_, not}

@@ -1,4 +1,4 @@
--- How document 01's table and its order rule a call, read on a view.
+-- How the table of refusals and its order (SPEC 5, 4.7) rule a call, read on a view.
 use mathlib.Core.Bool.{Bool, cond, _&&_, _||_, not}
 use Prim.Native.Nat.{ℕ, _*_, _/_, _%_}
 use lib.Dec.{eqb, leb}

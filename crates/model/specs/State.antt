@@ -20,7 +20,7 @@ pub record Run : Type 0 where
 unfoldable pub most : ℕ
 most = 4294967295
 
--- the counts of one class (document 01: asks and failures)
+-- the asks and failures of one class
 pub record Tally : Type 0 where
   pub reqs : ℕ
   pub fails : ℕ

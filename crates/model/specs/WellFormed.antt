@@ -1,4 +1,4 @@
--- When a state is one: rules 2 to 5 of document 01 without their encoding, and what drawing a state into bytes needs.
+-- When a state is one: rules 2 to 5 (SPEC 3) without their encoding, and what drawing a state into bytes needs.
 use mathlib.Core.Path.{_≡_}
 use mathlib.Core.Bool.{Bool, true, false, _&&_}
 use mathlib.Core.List.{List}
@@ -63,7 +63,7 @@ pub record ListsOk (f : ℕ → Page) (lists : ℕ → List ℕ) : Type 0 where
   pub holds : (c p : ℕ) → Mem p (lists c) → isOpen c (f p) ≡ true
   pub all : (c p : ℕ) → isOpen c (f p) ≡ true → Mem p (lists c)
 
--- ---- tallies (rule 7: of 32 bits; there are none past class 8)
+-- ---- tallies (of 32 bits; there are none past class 8)
 
 pub record TallyOk (c : ℕ) (t : Tally) : Type 0 where
   pub reqs-fit : t .reqs ≤ most

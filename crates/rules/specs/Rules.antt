@@ -1,4 +1,4 @@
--- Rules 2 to 6 of document 01 as tests on the fields v of n pages.
+-- Rules 2 to 6 (SPEC 3.2 to 3.6) as tests on the fields v of n pages.
 use Prim.Native.Nat.{ℕ, zero, suc, _+_, _-_, _%_, _^_}
 use mathlib.Core.Bool.{Bool, true, false, not}
 use mathlib.Core.List.{[], _∷_}

@@ -1,4 +1,4 @@
--- Document 01's whole case.
+-- The worked case (SPEC 9.3).
 use mathlib.Core.Path.{_≡_}
 use Prim.Native.Nat.{ℕ}
 use mathlib.Core.List.{List, [], _∷_, _++_}

@@ -1,4 +1,4 @@
--- What the script program prints (document 01: the script and its printout): a line for the pool, one for each script line, one for what is free.
+-- What the script program prints (SPEC 8): a line for the pool, one for each script line, one for what is free.
 use Prim.Native.Nat.{ℕ}
 use mathlib.Core.List.{List, [], _∷_, _++_}
 use mathlib.Core.Option.{Option, none, some}

@@ -1,4 +1,4 @@
-//! Document 01's examples that are not theorems, and the whole script case.
+//! The example of SPEC 9.2, which is no theorem, offsets at a pool's end, and the worked case.
 
 use danumrikal::{Offset, Pool, Refusal};
 use support::{length, PAGE};
