@@ -5,12 +5,13 @@
  * with the four calls, target/staticlib/libdanumrikal.a; it needs no other
  * library.
  *
- * The calls are proved: whatever the bytes hold and whatever size or offset is
- * passed, each returns, stays inside the given bytes and answers. A refused
- * call changes nothing, but that a chunk refused for room is counted in its
- * class's tallies. No call writes a block's bytes. An offset at which no live
- * block begins is never freed: a block freed twice is refused, as long as its
- * place was not handed out again.
+ * The four calls are proved: whatever the bytes hold and whatever size or
+ * offset is passed, each returns, stays inside the given bytes and answers. A
+ * refused call changes nothing, but that a chunk refused for room is counted in
+ * its class's asks and failures. No call writes a block's bytes. An offset at
+ * which no live block begins is never freed: a block freed twice is refused, as
+ * long as its place was not handed out again. The inline functions are tested.
+ * docs/SPEC.md has all rules.
  *
  * What the host program keeps:
  *

@@ -1,5 +1,5 @@
 -- The records of a pool as functions, one for each kind of record, and the bytes that they make.
--- Everything above speaks of an image; words and bytes stay in this file's `paint`.
+-- Above, records are changed as images; `paint` makes words of them.
 use mathlib.Core.Path.{_≡_}
 use mathlib.Core.List.{List}
 use Prim.Native.Nat.{ℕ, zero, suc, _-_, _<_}

@@ -3,7 +3,8 @@
 //! A [`Pool`] is lent bytes. Every call takes them, whatever they hold, and
 //! answers: nothing has to be checked first. The work is done by the static
 //! library that `rt staticlib danumrikal` builds of the proved crates; this
-//! crate only declares its functions and takes their answers apart.
+//! crate declares its functions, takes their answers apart and finds a block's
+//! bytes, which is tested and not proved. `docs/SPEC.md` has all rules.
 //!
 //! ```
 //! use danumrikal::{length, Pool, Refusal};

@@ -150,8 +150,8 @@ impl<'a> Pool<'a> {
     ///
     /// # Errors
     ///
-    /// The first of these; nothing changes, but that a refused chunk is counted
-    /// in its class's tallies:
+    /// The first of these; nothing changes, but that a chunk refused for room is
+    /// counted in its class's asks and failures:
     ///
     /// - [`Refusal::NotSound`]: the records break a rule
     /// - [`Refusal::NoRoom`]: no free chunk and no free page, or no run long

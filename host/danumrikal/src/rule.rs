@@ -1,7 +1,7 @@
 use std::fmt;
 
-/// The first rule of sound records that a pool breaks. `docs/RULES.md` has a
-/// broken example of each.
+/// The first rule of sound records (SPEC 3) that a pool breaks. `docs/RULES.md`
+/// has a broken example of each.
 ///
 /// ```
 /// use danumrikal::{check, Rule};
