@@ -1,4 +1,4 @@
--- What begins at an offset, in the bytes of a pool of P pages, in the order in which document 01 tries it.
+-- What begins at an offset, in the bytes of a pool of P pages, in the order of SPEC 4.7.
 use Prim.Native.Nat.{ℕ, _/_, _%_}
 use mathlib.Core.Bool.{Bool}
 use mathlib.Core.List.{List}
