@@ -10,3 +10,4 @@ pub mod Shown
 pub mod Holds
 pub mod Drawn
 pub mod Fits
+pub mod Judged

@@ -5,3 +5,4 @@ pub mod Agree
 pub mod Drawn
 pub mod Bytes
 pub mod Plain
+pub mod Judged

@@ -1,6 +1,5 @@
 -- Rules 1 to 6 (SPEC 3.1 to 3.6) in plain form: rule 1 on the bytes s, the others on the fields v of n pages.
--- `Bytes.antt` and `Rules.antt` have them as tests; `rule1-iff` (proofs/Rule1.antt), `rule2-iff` (proofs/Rule2.antt) to `rule6-iff` (proofs/Rules.antt)
--- say that both are the same.
+-- `Bytes.antt` and `Rules.antt` have them as tests; `Judged.antt` says that both are the same.
 use mathlib.Core.Path.{_≡_}
 use mathlib.Core.Bool.{Bool, true, false, _&&_}
 use mathlib.Core.List.{List}
