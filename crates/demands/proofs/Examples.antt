@@ -1,22 +1,23 @@
 -- The starred examples on bytes, by the demands and the model's examples.
 use mathlib.Core.Path.{_≡_, refl, sym, ap, _∙_}
+use mathlib.Core.Logic.{_⊎_, inl, inr}
 use mathlib.Core.Bool.{Bool, true, _&&_}
 use mathlib.Core.List.{List, [], _∷_, map}
-use Prim.Native.Nat.{ℕ, _≤_, _<_}
+use Prim.Native.Nat.{ℕ, _-_, _/_, _≤_, _<_}
 use native.Mathlib.Omega.{arith}
 use lib.Dec.{leb, ltb}
-use borrow.Author.Tests.{leb-true, ltb-true, lt-ltb}
+use borrow.Author.Tests.{leb-true, ltb-true, lt-ltb, le-ltb, le-leb, lt-leb}
 use Rattle.base.specs.Tests.{pick}
-use Rattle.base.proofs.Cases.{and-true}
+use Rattle.base.proofs.Cases.{and-true, lt?}
 use Rattle.words.specs.Word.{Bytes}
 use Rattle.records.specs.Class.{classAt}
 use Rattle.model.specs.Classes.{Need, chunkOf, pages, needOf}
 use Rattle.model.specs.State.{State}
 use Rattle.model.specs.Calls.{Call, fresh, step}
 use Rattle.model.specs.Live.{World, next, runFrom, begin}
-use Rattle.model.specs.Examples.{Question, sized, replies, tallyAfter, runsAfter, Fact, Example, needed, replied, computed, examples}
+use Rattle.model.specs.Examples.{Question, formats, sized, replies, tallyAfter, runsAfter, Fact, Example, made, needed, replied, computed, examples}
 use Rattle.model.proofs.Claim.{claims}
-use Rattle.format.specs.Format.{formatted}
+use Rattle.format.specs.Format.{shortest, tooLong, formatOutcome, formatted}
 use Rattle.rules.specs.Read.{tallyOf, readFields}
 use Rattle.rules.specs.Bytes.{pagesIn, imageOf, fieldsOf, brokenRule, read}
 use Rattle.drawing.proofs.Laws.{claims as laws-of}
@@ -47,8 +48,21 @@ tally-is w s c h = (rw (lt-ltb c 9 h), rw (lt-ltb c 9 h))
 
 -- ---- the questions
 
+-- what format answers, by the length and by the page count that it gives
+format-is : (n : ℕ) → outcomes (formatOutcome 2 n ∷ []) ≡ asSeen (made ((n - 152) / 4112))
+unfolding formatOutcome pick made
+format-is n = go (lt? n (shortest 2)) (lt? n (tooLong 2))
+  where
+    go : (n < shortest 2) ⊎ (shortest 2 ≤ n) → (n < tooLong 2) ⊎ (tooLong 2 ≤ n) → outcomes (formatOutcome 2 n ∷ []) ≡ asSeen (made ((n - 152) / 4112))
+    go (inl h) y = rw (lt-ltb n (shortest 2) h, lt-ltb ((n - 152) / 4112) 1 (omega arith))
+    go (inr h) (inl l) =
+        rw (le-ltb n (shortest 2) h, lt-leb (tooLong 2) n l, le-ltb ((n - 152) / 4112) 1 (omega arith), le-ltb 256 ((n - 152) / 4112) (omega arith))
+    go (inr h) (inr l) =
+        rw (le-ltb n (shortest 2) h, le-leb (tooLong 2) n l, le-ltb ((n - 152) / 4112) 1 (omega arith), lt-ltb 256 ((n - 152) / 4112) (omega arith))
+
 -- a question about a pool that there can be, and a class
 fits : Question → Bool
+fits (formats n) = true
 fits (sized n) = true
 fits (replies P cs) = leb 1 P && leb P 256
 fits (tallyAfter P cs c) = (leb 1 P && leb P 256) && ltb c 9
@@ -78,6 +92,7 @@ module _ (slice : ℕ → List ℕ) (ok : (P : ℕ) → 1 ≤ P → P ≤ 256 �
 
   seen-is : (q : Question) → fits q ≡ true → seen slice q ≡ asSeen (computed q)
   unfolding fits
+  seen-is (formats n) t = format-is n
   seen-is (sized n) t = want-is (needOf n)
     where
       want-is : (x : Need) → want (needed x) ≡ asSeen (needed x)

@@ -5,12 +5,12 @@ use Prim.Native.Nat.{ℕ, _≤_, _<_}
 use lib.ListN.{length}
 use Rattle.words.specs.Word.{Bytes}
 use Rattle.records.specs.Class.{classAt}
-use Rattle.answers.specs.Outcome.{Outcome}
+use Rattle.answers.specs.Outcome.{Outcome, granted}
 use Rattle.model.specs.Classes.{maxPages, needOf}
 use Rattle.model.specs.State.{Run}
 use Rattle.model.specs.Calls.{Call}
-use Rattle.model.specs.Examples.{Question, sized, replies, tallyAfter, runsAfter, Fact, aChunk, somePages, answers, counts, freeRuns, Example, needed, examples}
-use Rattle.format.specs.Format.{shortest, tooLong, formatted}
+use Rattle.model.specs.Examples.{Question, formats, sized, replies, tallyAfter, runsAfter, Fact, pool, noPool, aChunk, somePages, answers, counts, freeRuns, Example, needed, examples}
+use Rattle.format.specs.Format.{shortest, tooLong, formatOutcome, formatted}
 use Rattle.rules.specs.Bytes.{pagesIn, read}
 use Rattle.demands.specs.Calls.{outcome, answered, after}
 
@@ -31,6 +31,7 @@ pub data Seen : Type 0 where
 
 -- `slice P` is the slice that becomes a pool of P pages
 abbrev pub seen : (ℕ → List ℕ) → Question → Seen
+seen slice (formats n) = outcomes (formatOutcome 2 n ∷ [])
 seen slice (sized n) = want (needed (needOf n))
 seen slice (replies P cs) = outcomes (answersOn 2 (formatted 2 (slice P)) cs)
 seen slice (tallyAfter P cs c) =
@@ -38,6 +39,8 @@ seen slice (tallyAfter P cs c) =
 seen slice (runsAfter P cs) = runs (read 2 (sliceAfter 2 (formatted 2 (slice P)) cs) .runs)
 
 abbrev pub asSeen : Fact → Seen
+asSeen (pool P) = outcomes (granted P ∷ [])
+asSeen (noPool k) = outcomes (record { number = k; value = 0 } ∷ [])
 asSeen (aChunk n) = want (aChunk n)
 asSeen (somePages n) = want (somePages n)
 asSeen (answers rs) = outcomes (map outcome rs)

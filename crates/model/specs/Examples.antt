@@ -1,19 +1,26 @@
--- The examples of SPEC 9.1 that concern calls, and the worked case, as one list of questions and facts.
+-- The examples of SPEC 9.1 and the worked case, as one list of questions and facts.
 use mathlib.Core.Path.{_≡_}
+use mathlib.Core.Bool.{cond}
 use mathlib.Core.List.{List, [], _∷_, _++_, map}
-use Prim.Native.Nat.{ℕ}
-use Rattle.model.specs.Classes.{chunk, Need, chunkOf, pages, needOf}
+use Prim.Native.Nat.{ℕ, _-_, _/_}
+use lib.Dec.{ltb}
+use Rattle.answers.specs.Outcome.{numberOf}
+use Rattle.answers.specs.declared.Refusal.the-variants.{TooShort, TooLong}
+use Rattle.model.specs.Classes.{maxPages, chunk, Need, chunkOf, pages, needOf}
 use Rattle.model.specs.State.{Run, Tally, State}
 use Rattle.model.specs.Calls.{Call, Alloc, Free, Answer, at, freed, no, fresh, step}
 use Rattle.model.specs.Live.{runFrom, begin}
 
 pub data Question : Type 0 where
+  formats : ℕ → Question  -- what format answers for a slice of so many bytes
   sized : ℕ → Question  -- what a size asks for
   replies : ℕ → List Call → Question  -- the answers to calls on a fresh pool of so many pages
   tallyAfter : ℕ → List Call → ℕ → Question  -- the tally of a class after such calls
   runsAfter : ℕ → List Call → Question  -- the free runs after such calls
 
 pub data Fact : Type 0 where
+  pool : ℕ → Fact  -- a pool of so many pages
+  noPool : ℕ → Fact  -- refused with this number
   aChunk : ℕ → Fact  -- of so many bytes
   somePages : ℕ → Fact
   answers : List Answer → Fact
@@ -24,6 +31,10 @@ pub record Example : Type 0 where
   pub question : Question
   pub fact : Fact
 
+-- of the page count that a length gives
+unfoldable pub made : ℕ → Fact
+made P = cond (ltb P 1) (noPool (numberOf TooShort)) (cond (ltb maxPages P) (noPool (numberOf TooLong)) (pool P))
+
 abbrev pub needed : Need → Fact
 needed (chunkOf c) = aChunk (chunk c)
 needed (pages k) = somePages k
@@ -32,7 +43,9 @@ unfoldable pub replied : State → List Call → List Answer
 replied s [] = []
 replied s (c ∷ cs) = step s c .answer ∷ replied (step s c .after) cs
 
+-- header and class records have 152 bytes, each page has 4,112 with its record
 abbrev pub computed : Question → Fact
+computed (formats n) = made ((n - 152) / 4112)
 computed (sized n) = needed (needOf n)
 computed (replies P cs) = answers (replied (fresh P) cs)
 computed (tallyAfter P cs c) = counts (runFrom (begin P) cs .state .tally c)
@@ -52,6 +65,10 @@ wholeCase = Alloc 30 ∷ Alloc 64 ∷ Alloc 5000 ∷ Free 32 ∷ Free 32 ∷ All
 
 unfoldable pub examples : List Example
 examples =
+    record { question = formats 4263; fact = noPool 1 } ∷
+    record { question = formats 4264; fact = pool 1 } ∷
+    record { question = formats 1056935; fact = pool 256 } ∷
+    record { question = formats 1056936; fact = noPool 2 } ∷
     record { question = sized 0; fact = aChunk 8 } ∷
     record { question = sized 1; fact = aChunk 8 } ∷
     record { question = sized 8; fact = aChunk 8 } ∷
