@@ -1,5 +1,8 @@
 pub mod Shown
 pub mod Calls
+pub mod Turns
+pub mod Corollaries
+pub mod BookCorollaries
 pub mod Demands
 pub mod Examples
 pub mod Allocs

@@ -15,6 +15,7 @@ use Rattle.answers.specs.declared.Refusal.the-variants.{NotSound}
 use Rattle.model.specs.Classes.{chunkOf, pages, needOf}
 use Rattle.model.specs.Calls.{Call, Alloc, Free, tallied, step}
 use Rattle.model.specs.Live.{Block, offset, extent, Disjoint, Live, blockFor, elsewhere}
+use Rattle.model.specs.View.{vacant, View}
 use Rattle.model.specs.Expected.{expected}
 use Rattle.model.specs.Ruling.{Verdict, granted as allowed, refused as denied, clearIn, pageIn, runIn, ruling}
 use Rattle.model.specs.Claim.{BlocksPlaced}
@@ -72,7 +73,11 @@ pub record Demand2 (w : ℕ) (s : List ℕ) (sound : brokenRule w s ≡ 0) : Typ
 
 -- ---- demand 3: one claim about the whole list
 
--- a call, and what the slice holds when it is made: callers' bytes and the tail may have become any others
+-- what s may have become before a call: callers' bytes and the tail any others, length, header, records and maps as the last call left them
+abbrev pub Rewritten : ℕ → List ℕ → List ℕ → Type 0
+Rewritten w s u = SameRecords w s u × Bytes u
+
+-- a call, and what the slice holds when it is made
 pub record Turn : Type 0 where
   pub bytes : List ℕ
   pub call : Call
@@ -82,10 +87,10 @@ unfoldable pub fed : List Block → Call → Outcome → List Block
 fed B (Alloc n) o = pick (eqb (o .number) 0) (blockFor (needOf n) (o .value) ∷ B) B
 fed B (Free off) o = pick (eqb (o .number) 0) (keep (elsewhere off) B) B
 
--- header, records and maps are as the last call left them
+-- before each call nothing but callers' bytes and the tail was written
 abbrev pub Allowed : ℕ → List ℕ → List Turn → Type 0
 Allowed w s [] = Unit {0}
-Allowed w s (t ∷ ts) = SameRecords w s (t .bytes) × Bytes (t .bytes) × Allowed w (after w (t .bytes) (t .call)) ts
+Allowed w s (t ∷ ts) = Rewritten w s (t .bytes) × Allowed w (after w (t .bytes) (t .call)) ts
 
 -- the slice and the live set after a list of turns
 abbrev pub played : ℕ → List ℕ → List Turn → List ℕ
@@ -95,6 +100,15 @@ played w s (t ∷ ts) = played w (after w (t .bytes) (t .call)) ts
 abbrev pub book : ℕ → List Block → List Turn → List Block
 book w B [] = B
 book w B (t ∷ ts) = book w (fed B (t .call) (answered w (t .bytes) (t .call))) ts
+
+-- u is reached from s with the live set B: by format, which accepts s, and a list of turns; callers may have written since
+pub record Reached (w : ℕ) (s : List ℕ) (B : List Block) (u : List ℕ) : Type 0 where
+  pub some : shortest w ≤ length s
+  pub most : length s < tooLong w
+  pub turns : List Turn
+  pub allowed : Allowed w (formatted w s) turns
+  pub live : book w [] turns ≡ B
+  pub since : Rewritten w (played w (formatted w s) turns) u
 
 -- a granted alloc overlaps no block of the live set
 unfoldable pub Apart : List Block → Call → Outcome → Type 0
@@ -113,14 +127,45 @@ pub record Faithful (w P : ℕ) (B : List Block) (s : List ℕ) : Type 0 where
   pub apart : (call : Call) → Apart B call (answered w s call)
   pub ruled : (call : Call) → answered w s call .number ≡ numberIn (ruling (expected P B) call)
 
--- from what format leaves of any slice that it accepts
+-- after any list of turns from what format leaves of any slice that it accepts
 abbrev pub Demand3 : ℕ → List ℕ → Type 0
-Demand3 w s = shortest w ≤ length s → length s < tooLong w → (ts : List Turn) → Allowed w (formatted w s) ts →
-    (u : List ℕ) → SameRecords w (played w (formatted w s) ts) u → Bytes u → Faithful w (pagesIn w s) (book w [] ts) u
+Demand3 w s = (B : List Block) (u : List ℕ) → Reached w s B u → Faithful w (pagesIn w s) B u
 
--- ---- corollaries
+-- ---- what follows from demand 3, with live blocks from calls and answers alone
 
--- on sound records
+-- a view of P pages that are one free run, with nothing else in it
+pub record OneFreeRun (P : ℕ) (v : View) : Type 0 where
+  pub size : v .size ≡ P
+  pub run : v .freeRun 0 ≡ P
+  pub no-other : (p : ℕ) → 1 ≤ p → v .freeRun p ≡ 0
+  pub all-free : (p : ℕ) → v .page p ≡ vacant
+  pub no-mark : (p i : ℕ) → v .mark p i ≡ false
+  pub none-used : (c : ℕ) → v .used c ≡ 0
+  pub none-counted : (c : ℕ) → v .total c ≡ 0
+
+pub record BookCorollaries (w : ℕ) (s : List ℕ) : Type 0 where
+  -- a granted alloc that is freed next, whatever callers wrote in between: the free is granted, and the five are as before
+  pub alloc-freed : (B : List Block) (u : List ℕ) → Reached w s B u → (n off : ℕ) → answered w u (Alloc n) ≡ granted off →
+      (v : List ℕ) → Rewritten w (after w u (Alloc n)) v →
+      (answered w v (Free off) .number ≡ 0) × (shownBy w (after w v (Free off)) ≡ shownBy w u)
+  -- two blocks of the live set are freed one after the other: both frees are granted ..
+  pub both-freed : (B : List Block) (d e : Block) → Mem d B → Mem e B → d ≢ e →
+      (u v : List ℕ) → Reached w s B u → Rewritten w (after w u (Free (offset d))) v →
+      (answered w u (Free (offset d)) .number ≡ 0) × (answered w v (Free (offset e)) .number ≡ 0)
+  -- .. and leave the same five in either order, whatever callers wrote before each
+  pub either-way : (B : List Block) (d e : Block) → Mem d B → Mem e B → d ≢ e →
+      (u v : List ℕ) → Reached w s B u → Rewritten w (after w u (Free (offset d))) v →
+      (u′ v′ : List ℕ) → Reached w s B u′ → Rewritten w (after w u′ (Free (offset e))) v′ →
+      shownBy w (after w v (Free (offset e))) ≡ shownBy w (after w v′ (Free (offset d)))
+  -- with the live set empty the pool is one free run again, as the expected view of no blocks is
+  pub all-freed : (u : List ℕ) → Reached w s [] u → OneFreeRun (pagesIn w s) (shownBy w u) × (shownBy w u ≡ expected (pagesIn w s) [])
+  -- two pools of as many pages whose live sets hold the same blocks, whatever led there, show the same five, and every next call is
+  -- granted, or refused by the same number, alike
+  pub alike : (t : List ℕ) → Bytes t → pagesIn w s ≡ pagesIn w t → (B D : List Block) (u v : List ℕ) → Reached w s B u → Reached w t D v →
+      ((e : Block) → Mem e B ↔ Mem e D) → (shownBy w u ≡ shownBy w v) × ((call : Call) → answered w u call .number ≡ answered w v call .number)
+
+-- ---- the same on any sound records, with live blocks as the maps show them, and calls one right after the other
+
 pub record Corollaries (w : ℕ) (s : List ℕ) : Type 0 where
   -- a granted alloc that is freed at once leaves the five as before
   pub alloc-freed : (n off : ℕ) → answered w s (Alloc n) ≡ granted off →
@@ -140,6 +185,7 @@ pub record Demands (w : ℕ) (s : List ℕ) : Type 0 where
   pub demand1 : Demand1 w s
   pub demand2 : (sound : brokenRule w s ≡ 0) → Demand2 w s sound
   pub demand3 : Demand3 w s
+  pub book-corollaries : BookCorollaries w s
   pub corollaries : brokenRule w s ≡ 0 → Corollaries w s
 
 abbrev pub Claims : Type 0
