@@ -16,10 +16,10 @@ use Rattle.base.proofs.Functions.{upd-same, upd-other}
 use Rattle.words.specs.Word.{Bytes}
 use Rattle.records.specs.Layout.{noPage}
 use Rattle.model.specs.Classes.{chunks, own, hasClear, hasTaken}
-use Rattle.model.specs.State.{slab, State}
+use Rattle.model.specs.State.{slab, State, isOpen}
 use Rattle.model.specs.View.{usedOn, usedOf, shown}
 use Rattle.model.specs.Calls.{relisted, keepPage}
-use Rattle.model.specs.WellFormed.{ClassOk, WellFormed, isOpen}
+use Rattle.model.specs.WellFormed.{ClassOk, WellFormed}
 use Rattle.model.proofs.Table.{slab-ok}
 use Rattle.model.proofs.Lists.{open-slab, open-other}
 use Rattle.model.proofs.FreeChunk.{kept-well}

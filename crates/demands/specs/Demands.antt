@@ -14,11 +14,10 @@ use Rattle.answers.specs.Outcome.{Outcome, granted, refused}
 use Rattle.answers.specs.declared.Refusal.the-variants.{NotSound}
 use Rattle.model.specs.Classes.{chunkOf, pages, needOf}
 use Rattle.model.specs.Calls.{Call, Alloc, Free, tallied, step}
-use Rattle.model.specs.Live.{Block, offset, extent, Disjoint, Live, blockFor, elsewhere}
+use Rattle.model.specs.Live.{Block, offset, extent, Disjoint, Live, BlocksPlaced, blockFor, elsewhere}
 use Rattle.model.specs.View.{vacant, View}
 use Rattle.model.specs.Expected.{expected}
 use Rattle.model.specs.Ruling.{Verdict, granted as allowed, refused as denied, clearIn, pageIn, runIn, ruling}
-use Rattle.model.specs.Claim.{BlocksPlaced}
 use Rattle.format.specs.Format.{shortest, tooLong, formatted}
 use Rattle.rules.specs.Bytes.{pagesIn, brokenRule, read}
 use Rattle.drawing.specs.Draw.{inMap, draw}

@@ -8,9 +8,9 @@ use native.Mathlib.Omega.{arith}
 use Rattle.base.specs.Functions.{upd, fill}
 use Rattle.base.proofs.Cases.{never, eq?, Out, in?}
 use Rattle.base.proofs.Functions.{upd-same, upd-other, fill-in, fill-out}
-use Rattle.model.specs.State.{Page, idle, slab, taken, inside, edge, Run, State}
+use Rattle.model.specs.State.{Page, idle, slab, taken, inside, edge, Run, State, isOpen}
 use Rattle.model.specs.Runs.{fit}
-use Rattle.model.specs.WellFormed.{PageOk, TableOk, isOpen, WellFormed}
+use Rattle.model.specs.WellFormed.{PageOk, TableOk, WellFormed}
 use Rattle.model.specs.Calls.{allocRun}
 use Rattle.model.specs.Live.{Block, large, On}
 use Rattle.model.specs.Effects.{Adds, SlabsFrom}

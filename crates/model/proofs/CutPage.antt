@@ -12,9 +12,9 @@ use Rattle.base.specs.Lists.{Mem}
 use Rattle.base.proofs.Cases.{never, eq?}
 use Rattle.base.proofs.Functions.{upd-same, upd-other, upd-out}
 use Rattle.model.specs.Classes.{chunk, own, hasClear, newMarks}
-use Rattle.model.specs.State.{Page, idle, slab, Run, State}
+use Rattle.model.specs.State.{Page, idle, slab, Run, State, isOpen}
 use Rattle.model.specs.Runs.{fit}
-use Rattle.model.specs.WellFormed.{ClassOk, TableOk, isOpen, ListsOk, WellFormed}
+use Rattle.model.specs.WellFormed.{ClassOk, TableOk, ListsOk, WellFormed}
 use Rattle.model.specs.Calls.{cutPage}
 use Rattle.model.specs.Live.{Block, small, On}
 use Rattle.model.specs.Effects.{Adds, SlabsFrom}

@@ -13,8 +13,8 @@ use Rattle.base.proofs.Cases.{clash, never, eq?, lt?, Out}
 use Rattle.base.proofs.Functions.{upd-same, upd-other, fill-in, fill-out}
 use Rattle.base.proofs.Lists.{keep-mem, mem-keep, keep-once}
 use Rattle.model.specs.Classes.{chunk, chunks, own, hasClear, hasTaken}
-use Rattle.model.specs.State.{idle, slab, edge, State}
-use Rattle.model.specs.WellFormed.{ClassOk, TableOk, isOpen, ListsOk, WellFormed}
+use Rattle.model.specs.State.{idle, slab, edge, State, isOpen}
+use Rattle.model.specs.WellFormed.{ClassOk, TableOk, ListsOk, WellFormed}
 use Rattle.model.specs.Calls.{release, relisted, keepPage, dropPage}
 use Rattle.model.specs.Live.{Block, small, offset, extent, On}
 use Rattle.model.specs.Effects.{Strikes, SlabsFrom}

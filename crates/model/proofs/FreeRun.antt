@@ -7,8 +7,8 @@ use native.Mathlib.Omega.{arith}
 use Rattle.base.specs.Functions.{fill}
 use Rattle.base.proofs.Cases.{never, eq?, Out, in?}
 use Rattle.base.proofs.Functions.{fill-in, fill-out}
-use Rattle.model.specs.State.{Page, idle, slab, taken, inside, edge, State}
-use Rattle.model.specs.WellFormed.{TableOk, isOpen, WellFormed}
+use Rattle.model.specs.State.{Page, idle, slab, taken, inside, edge, State, isOpen}
+use Rattle.model.specs.WellFormed.{TableOk, WellFormed}
 use Rattle.model.specs.Calls.{release}
 use Rattle.model.specs.Live.{Block, large, offset, extent, On}
 use Rattle.model.specs.Effects.{Strikes, SlabsFrom}

@@ -9,8 +9,8 @@ use lib.Dec.{ltb}
 use borrow.Author.Tests.{lt-ltb, le-ltb}
 use Rattle.base.specs.Lists.{Mem}
 use Rattle.base.proofs.Cases.{never, lt?}
-use Rattle.model.specs.State.{Page, idle, taken, inside, edge, Run, isIdle}
-use Rattle.model.specs.WellFormed.{PageOk, Stretch, isOpen, WellFormed}
+use Rattle.model.specs.State.{Page, idle, taken, inside, edge, Run, isIdle, isOpen}
+use Rattle.model.specs.WellFormed.{PageOk, Stretch, WellFormed}
 use Rattle.model.specs.Calls.{fresh}
 use Rattle.model.specs.Live.{Block, On, Live}
 

@@ -12,8 +12,8 @@ use Rattle.base.specs.Lists.{Mem, NoDup}
 use Rattle.base.proofs.Cases.{never, eq?, and-true}
 use Rattle.base.proofs.Functions.{upd-same, upd-other}
 use Rattle.model.specs.Classes.{hasClear}
-use Rattle.model.specs.State.{Page, idle, slab, taken, inside, edge}
-use Rattle.model.specs.WellFormed.{TableOk, isOpen, ListsOk}
+use Rattle.model.specs.State.{Page, idle, slab, taken, inside, edge, isOpen}
+use Rattle.model.specs.WellFormed.{TableOk, ListsOk}
 use Rattle.model.proofs.Table.{slab-ok}
 
 -- ---- a page on its class list

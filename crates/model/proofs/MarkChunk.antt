@@ -10,8 +10,8 @@ use Rattle.base.specs.Lists.{Mem, NoDup}
 use Rattle.base.proofs.Cases.{clash, eq?, lt?}
 use Rattle.base.proofs.Functions.{upd-same, upd-other}
 use Rattle.model.specs.Classes.{chunk, chunks, own, lowest, hasClear}
-use Rattle.model.specs.State.{Page, slab, State}
-use Rattle.model.specs.WellFormed.{ClassOk, TableOk, isOpen, ListsOk, WellFormed}
+use Rattle.model.specs.State.{Page, slab, State, isOpen}
+use Rattle.model.specs.WellFormed.{ClassOk, TableOk, ListsOk, WellFormed}
 use Rattle.model.specs.Calls.{markChunk}
 use Rattle.model.specs.Live.{Block, small, offset, On}
 use Rattle.model.specs.Effects.{Adds, SlabsFrom}

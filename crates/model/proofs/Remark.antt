@@ -7,8 +7,8 @@ use native.Mathlib.Omega.{arith}
 use Rattle.base.specs.Functions.{upd}
 use Rattle.base.proofs.Cases.{never, eq?}
 use Rattle.base.proofs.Functions.{upd-same, upd-other, upd-out}
-use Rattle.model.specs.State.{idle, slab, State, isIdle}
-use Rattle.model.specs.WellFormed.{ClassOk, TableOk, RunsOk, isOpen, WellFormed}
+use Rattle.model.specs.State.{idle, slab, State, isIdle, isOpen}
+use Rattle.model.specs.WellFormed.{ClassOk, TableOk, RunsOk, WellFormed}
 use Rattle.model.specs.Effects.{SlabsFrom}
 use Rattle.model.proofs.Runs.{runs-same}
 use Rattle.model.proofs.Table.{in-table, solid-slab, replaced}

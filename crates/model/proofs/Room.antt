@@ -9,9 +9,9 @@ use native.Mathlib.Omega.{arith}
 use lib.Dec.{eqb}
 use Rattle.base.proofs.Cases.{clash, never, decided, cond-case}
 use Rattle.model.specs.Classes.{chunk, startsChunk}
-use Rattle.model.specs.State.{Page, idle, slab, taken, inside, edge, Run, State, isIdle}
+use Rattle.model.specs.State.{Page, idle, slab, taken, inside, edge, Run, State, isIdle, isOpen}
 use Rattle.model.specs.Runs.{fit}
-use Rattle.model.specs.WellFormed.{isOpen, WellFormed}
+use Rattle.model.specs.WellFormed.{WellFormed}
 use Rattle.model.specs.Calls.{Alloc, Answer, at, freed, no, Reply, noRoom, outside, notTaken, notAStart, refuse, allocRun, tallied, cutPage, markChunk, allocChunk, allocFor, alloc, freeAt, free, step}
 use Rattle.model.specs.View.{shown}
 use Rattle.model.specs.Ruling.{granted, refused, verdict, clearIn, pageIn, runIn, allocRuling, ruling}

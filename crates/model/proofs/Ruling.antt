@@ -13,9 +13,9 @@ use Rattle.base.specs.Lists.{Mem}
 use Rattle.base.proofs.Cases.{never, decided, cond-case}
 use Rattle.base.proofs.Search.{any-some, any-at}
 use Rattle.model.specs.Classes.{chunk, chunks, hasClear, startsChunk, Need, chunkOf, pages, needOf}
-use Rattle.model.specs.State.{Page, idle, slab, taken, inside, edge, Run, State, marksOf}
+use Rattle.model.specs.State.{Page, idle, slab, taken, inside, edge, Run, State, marksOf, isOpen}
 use Rattle.model.specs.Runs.{fit, startsAt}
-use Rattle.model.specs.WellFormed.{isOpen, WellFormed}
+use Rattle.model.specs.WellFormed.{WellFormed}
 use Rattle.model.specs.Calls.{Alloc, Free, Reply, noRoom, refuse, allocRun, cutPage, markChunk, allocChunk, allocFor, alloc, freeAt, free, step}
 use Rattle.model.specs.View.{isVacant, isClass, kindOf, shown}
 use Rattle.model.specs.Ruling.{Verdict, granted, refused, verdict, clearIn, pageIn, runIn, allocRuling, freeRuling, pastEnd, ruling}

@@ -6,10 +6,10 @@ use mathlib.Core.List.{List}
 use Prim.Native.Nat.{ℕ, _+_, _*_, _/_, _≤_, _<_}
 use Rattle.base.specs.Lists.{Mem, NoDup}
 use Rattle.model.specs.Classes.{chunk, chunks, own, chunkOf, pages, needOf}
-use Rattle.model.specs.State.{Page, idle, slab, State}
-use Rattle.model.specs.WellFormed.{Stretch, isOpen, WellFormed}
+use Rattle.model.specs.State.{Page, idle, slab, State, isOpen}
+use Rattle.model.specs.WellFormed.{Stretch, WellFormed}
 use Rattle.model.specs.Calls.{Call, Alloc, Free, Answer, at, freed, no, Reply, noRoom, fresh, tallied, step}
-use Rattle.model.specs.Live.{Block, small, large, offset, extent, Disjoint, Off, Live, blocks, Rising, blockFor, NoOverlap, LiveSet, World, runFrom, begin}
+use Rattle.model.specs.Live.{Block, small, large, offset, extent, Disjoint, Off, Live, blocks, BlocksPlaced, blockFor, NoOverlap, LiveSet, World, runFrom, begin}
 use Rattle.model.specs.Effects.{Effect, SlabsFrom, Stays, without}
 use Rattle.model.specs.View.{vacant, class, runOf, within, shown}
 use Rattle.model.specs.Expected.{covers, freePage, expected}
@@ -103,19 +103,6 @@ pub record Refusals (s : State) : Type 0 where
   pub free : (off k : ℕ) → step s (Free off) .answer ≡ no k → step s (Free off) .after ≡ s
 
 -- ---- the live blocks of any well-formed state
-
-pub record BlocksPlaced (s : State) : Type 0 where
-  -- they overlap no other block, ..
-  pub apart : (d e : Block) → Live (s .page) d → Live (s .page) e → d ≢ e → Disjoint d e
-  -- .. no chunk of a bitmap, ..
-  pub off-maps : (e : Block) → Live (s .page) e → (p c : ℕ) (m : ℕ → Bool) → s .page p ≡ slab c m → Off e (4096 * p) (chunk c * own c)
-  -- .. no free page, ..
-  pub off-free : (e : Block) → Live (s .page) e → (p : ℕ) → s .page p ≡ idle → Off e (4096 * p) 4096
-  -- .. and lie in the pages
-  pub within-pages : (e : Block) → Live (s .page) e → offset e + extent e ≤ 4096 * s .size
-  -- `blocks` lists them in order of offset
-  pub listed : LiveSet (blocks s) (s .page)
-  pub rising : Rising 0 (blocks s)
 
 abbrev pub Placing : Type 0
 Placing = (s : State) → WellFormed s → BlocksPlaced s

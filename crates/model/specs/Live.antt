@@ -1,6 +1,6 @@
 -- Live blocks: those of a state, and the live set that calls and answers alone feed (SPEC 6.2).
 use mathlib.Core.Path.{_≡_}
-use mathlib.Core.Logic.{_⊎_}
+use mathlib.Core.Logic.{_⊎_, _≢_}
 use mathlib.Core.Bool.{Bool, true, cond, _&&_, not}
 use mathlib.Core.List.{List, [], _∷_, _++_}
 use Prim.Native.Nat.{ℕ, zero, suc, _+_, _*_, _≤_, _<_}
@@ -105,6 +105,20 @@ pub record LiveSet (B : List Block) (f : ℕ → Page) : Type 0 where
   pub once : NoDup B
   pub live : (e : Block) → Mem e B → Live f e
   pub all : (e : Block) → Live f e → Mem e B
+
+-- where the live blocks of a state lie
+pub record BlocksPlaced (s : State) : Type 0 where
+  -- they overlap no other block, ..
+  pub apart : (d e : Block) → Live (s .page) d → Live (s .page) e → d ≢ e → Disjoint d e
+  -- .. no chunk of a bitmap, ..
+  pub off-maps : (e : Block) → Live (s .page) e → (p c : ℕ) (m : ℕ → Bool) → s .page p ≡ slab c m → Off e (4096 * p) (chunk c * own c)
+  -- .. no free page, ..
+  pub off-free : (e : Block) → Live (s .page) e → (p : ℕ) → s .page p ≡ idle → Off e (4096 * p) 4096
+  -- .. and lie in the pages
+  pub within-pages : (e : Block) → Live (s .page) e → offset e + extent e ≤ 4096 * s .size
+  -- `blocks` lists them in order of offset
+  pub listed : LiveSet (blocks s) (s .page)
+  pub rising : Rising 0 (blocks s)
 
 -- ---- after a list of calls
 

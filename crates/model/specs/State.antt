@@ -1,7 +1,9 @@
 -- The state of a pool apart from its bytes. Links, back links and counts are functions of it, so nothing is stored twice.
-use mathlib.Core.Bool.{Bool, true, false}
+use mathlib.Core.Bool.{Bool, true, false, _&&_}
 use mathlib.Core.List.{List}
 use Prim.Native.Nat.{ℕ}
+use lib.Dec.{eqb}
+use Rattle.model.specs.Classes.{hasClear}
 
 -- what a page is
 pub data Page : Type 0 where
@@ -47,3 +49,11 @@ marksOf (slab c m) i = m i
 marksOf (taken n) i = false
 marksOf inside i = false
 marksOf edge i = false
+
+-- a page of class c with a clear mark
+unfoldable pub isOpen : ℕ → Page → Bool
+isOpen c idle = false
+isOpen c (slab d m) = eqb d c && hasClear c m
+isOpen c (taken n) = false
+isOpen c inside = false
+isOpen c edge = false

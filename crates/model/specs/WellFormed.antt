@@ -1,12 +1,11 @@
 -- When a state is one: rules 2 to 5 (SPEC 3) without their encoding, and what drawing a state into bytes needs.
 use mathlib.Core.Path.{_≡_}
-use mathlib.Core.Bool.{Bool, true, false, _&&_}
+use mathlib.Core.Bool.{Bool, true, false}
 use mathlib.Core.List.{List}
 use Prim.Native.Nat.{ℕ, suc, _+_, _≤_, _<_}
-use lib.Dec.{eqb}
 use Rattle.base.specs.Lists.{Mem, NoDup}
-use Rattle.model.specs.Classes.{chunks, own, hasClear, hasTaken}
-use Rattle.model.specs.State.{Page, idle, slab, taken, inside, edge, Run, most, Tally, State, isIdle}
+use Rattle.model.specs.Classes.{chunks, own, hasTaken}
+use Rattle.model.specs.State.{Page, idle, slab, taken, inside, edge, Run, most, Tally, State, isIdle, isOpen}
 
 -- ---- pages (rules 2 and 5)
 
@@ -48,14 +47,6 @@ pub record RunsOk (g : ℕ → Bool) (rs : List Run) : Type 0 where
   pub covers : (j : ℕ) → g j ≡ true → (r : Run) × Mem r rs × (r .start ≤ j) × (j < r .start + r .len)
 
 -- ---- class lists (rule 4)
-
--- a page of class c with a clear mark
-unfoldable pub isOpen : ℕ → Page → Bool
-isOpen c idle = false
-isOpen c (slab d m) = eqb d c && hasClear c m
-isOpen c (taken n) = false
-isOpen c inside = false
-isOpen c edge = false
 
 -- the list of each class holds its pages with a clear mark, each once
 pub record ListsOk (f : ℕ → Page) (lists : ℕ → List ℕ) : Type 0 where

@@ -13,9 +13,8 @@ use Rattle.base.proofs.AllBelow.{pick-same, each-of, all-of-same, all-at, all-s
 use Rattle.records.specs.Layout.{noPage}
 use Rattle.records.specs.declared.Links.{Links}
 use Rattle.records.specs.declared.ClassRecord.{ClassRecord}
-use Rattle.model.specs.State.{Page}
+use Rattle.model.specs.State.{Page, isOpen}
 use Rattle.model.specs.View.{usedOf, shown}
-use Rattle.model.specs.WellFormed.{isOpen}
 use Rattle.rules.specs.Fields.{Fields, kind, class, run, next, prev, map, first, pageOf, pageAt}
 use Rattle.rules.specs.Read.{trail, isHead, openAt, headsOf, listOf, withLengths, tallyOf, readFields}
 use Rattle.rules.specs.Rules.{kindAt, kindFrom, runFits, insideFree, endsFree, lastBack, freeRun, firstFree, mapFits, classWith, classPage, endsTaken, takenRun, firstTaken, insideTaken, byKind, rule2At, rule2, linked, rule3, classList, fullAlone, rule4, rule5, freeIn, countsFit, rule6}

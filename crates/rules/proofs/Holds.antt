@@ -11,8 +11,8 @@ use Rattle.base.proofs.Cases.{lt?}
 use Rattle.base.proofs.AllBelow.{pick-yes, pick-no}
 use Rattle.records.specs.Layout.{noPage}
 use Rattle.records.specs.declared.Links.{Links}
-use Rattle.model.specs.State.{Page, slab, State, isIdle}
-use Rattle.model.specs.WellFormed.{RunsOk, isOpen, WellFormed}
+use Rattle.model.specs.State.{Page, slab, State, isIdle, isOpen}
+use Rattle.model.specs.WellFormed.{RunsOk, WellFormed}
 use Rattle.model.specs.View.{kindOf, usedOf, totalIn, shown}
 use Rattle.model.proofs.Lists.{open-is, no-list-past}
 use Rattle.model.proofs.Table.{slab-ok}

@@ -12,8 +12,7 @@ use Rattle.base.proofs.Tests.{both-true}
 use Rattle.base.proofs.AllBelow.{pick-yes, pick-no, pick-both}
 use Rattle.base.proofs.Search.{any-some}
 use Rattle.model.specs.Classes.{hasClear}
-use Rattle.model.specs.State.{Page, idle, slab, taken, inside, edge, isIdle}
-use Rattle.model.specs.WellFormed.{isOpen}
+use Rattle.model.specs.State.{Page, idle, slab, taken, inside, edge, isIdle, isOpen}
 use Rattle.model.proofs.Classes.{clear-at}
 use Rattle.rules.specs.Fields.{Fields, kind, class, run, pageOf, pageAt}
 use Rattle.rules.specs.Read.{isHead, openAt}

@@ -10,8 +10,8 @@ use Rattle.base.specs.Lists.{Mem, NoDup}
 use Rattle.base.proofs.Cases.{lt?, never, decided}
 use Rattle.base.proofs.AllBelow.{pick-yes, pick-no}
 use Rattle.records.specs.Layout.{noPage}
-use Rattle.model.specs.State.{taken, inside, edge, Run, most, isIdle}
-use Rattle.model.specs.WellFormed.{PageOk, TableOk, Stretch, RunsOk, isOpen, ListsOk, TallyOk, WellFormed}
+use Rattle.model.specs.State.{taken, inside, edge, Run, most, isIdle, isOpen}
+use Rattle.model.specs.WellFormed.{PageOk, TableOk, Stretch, RunsOk, ListsOk, TallyOk, WellFormed}
 use Rattle.rules.specs.Fields.{Fields, kind, class, run, pageOf, pageAt}
 use Rattle.rules.specs.Read.{openAt, headsOf, listOf, withLengths, tallyOf, readFields}
 use Rattle.rules.specs.Rules.{rule3, rule4, rule5}

@@ -5,8 +5,7 @@ use mathlib.Core.List.{List, [], _∷_}
 use lib.Dec.{eqb, ltb}
 use Rattle.base.specs.Tests.{pick}
 use Rattle.base.specs.Count.{count}
-use Rattle.model.specs.State.{State, Run, Tally}
-use Rattle.model.specs.WellFormed.{isOpen}
+use Rattle.model.specs.State.{State, Run, Tally, isOpen}
 use Rattle.rules.specs.Fields.{Fields, kind, run, next, first, pageAt}
 
 -- the k pages from p on by next

@@ -12,11 +12,11 @@ use Rattle.base.specs.Links.{headOr, nextIn, prevFrom}
 use Rattle.base.proofs.Cases.{clash, bool?, eq?, lt?}
 use Rattle.records.specs.Layout.{noPage}
 use Rattle.records.specs.declared.Links.{Links}
-use Rattle.model.specs.State.{Page, idle, slab, taken, inside, edge, Run, State, isIdle}
+use Rattle.model.specs.State.{Page, idle, slab, taken, inside, edge, Run, State, isIdle, isOpen}
 use Rattle.model.specs.Runs.{startsAt}
 use Rattle.model.proofs.Table.{is-idle}
 use Rattle.model.proofs.Lists.{open-is}
-use Rattle.model.specs.WellFormed.{RunsOk, ListsOk, TableOk, WellFormed, isOpen}
+use Rattle.model.specs.WellFormed.{RunsOk, ListsOk, TableOk, WellFormed}
 use Rattle.image.specs.Image.{Image}
 use Rattle.lists.specs.Links.{between}
 use Rattle.lists.specs.Nodes.{head, firstIn, nextOf, prevOf, Listed}

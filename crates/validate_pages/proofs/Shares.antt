@@ -19,9 +19,8 @@ use Rattle.maps.specs.Bitmap.{mark, bitsOf}
 use Rattle.maps.proofs.Bits.{bits-small, bits-join, bits-injective}
 use Rattle.maps.proofs.Words.{word-marks}
 use Rattle.model.specs.Classes.{chunks, own}
-use Rattle.model.specs.State.{Page, idle, slab, taken, inside, edge, isIdle}
+use Rattle.model.specs.State.{Page, idle, slab, taken, inside, edge, isIdle, isOpen}
 use Rattle.model.specs.View.{kindOf, isClass, usedOn}
-use Rattle.model.specs.WellFormed.{isOpen}
 use Rattle.map_count.specs.Popcount.{mapBits}
 use Rattle.map_count.proofs.Counts.{ones-bits, count-join}
 use Rattle.map_count.proofs.Marked.{count-ext, count-none, clear-count, taken-count, used-count}

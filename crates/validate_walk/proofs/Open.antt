@@ -12,7 +12,7 @@ use Rattle.base.proofs.Cases.{eq?}
 use Rattle.words.specs.Word.{Bytes}
 use Rattle.maps.specs.Bitmap.{mark}
 use Rattle.model.specs.Classes.{chunks, hasClear}
-use Rattle.model.specs.WellFormed.{isOpen}
+use Rattle.model.specs.State.{isOpen}
 use Rattle.map_occupancy.specs.Occupancy.{isFull}
 use Rattle.map_occupancy.proofs.Words.{bits-most}
 use Rattle.map_occupancy.proofs.Told.{full-is}
