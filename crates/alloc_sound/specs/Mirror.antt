@@ -7,7 +7,7 @@ use Rattle.records.specs.Layout.{noPage}
 use Rattle.answers.specs.Outcome.{Outcome, granted, refused}
 use Rattle.answers.specs.declared.Refusal.the-variants.{NoRoom}
 use Rattle.model.specs.Classes.{chunk, chunks, own, pagesFor}
-use Rattle.maps.specs.Bitmap.{lowestClear}
+use Rattle.maps.specs.Mirror.{lowestClear}
 use Rattle.lists.specs.Links.{firstOf}
 use Rattle.rules.specs.Bytes.{mapBase}
 use Rattle.run_extents.specs.Extents.{fitIn, runTaken}

@@ -2,7 +2,7 @@
 // `w` is the number of words of a class record, `pages` the pages of the pool.
 use records::PageNumber;
 ghost use mathlib.Core.Path.{_≡_};
-ghost use Rattle.maps.specs.Bitmap.{lowestClear};
+ghost use Rattle.maps.specs.Mirror.{lowestClear};
 ghost use Rattle.model.specs.Classes.{chunks};
 ghost use Rattle.rules.specs.Bytes.{mapBase};
 ghost use Rattle.chunks.specs.Chunks.{chunkTaken, newMapAt, pageCut};

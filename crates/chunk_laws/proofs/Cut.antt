@@ -25,8 +25,8 @@ use Rattle.model.proofs.Classes.{own-few, some-taken}
 use Rattle.model.proofs.Table.{is-idle}
 use Rattle.model.proofs.Runs.{fit-found}
 use Rattle.model.proofs.CutPage.{cut-well}
-use Rattle.image.specs.Image.{Image, paint}
-use Rattle.image.specs.Update.{setMap, setLinks}
+use Rattle.image.specs.Image.{Image, paint, setLinks}
+use Rattle.image.specs.Update.{setMap}
 use Rattle.image.proofs.Fits.{Fits}
 use Rattle.lists.specs.Links.{firstTo, between}
 use Rattle.lists.specs.Nodes.{firstIn, push}

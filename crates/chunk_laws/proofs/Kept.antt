@@ -23,8 +23,7 @@ use Rattle.model.specs.WellFormed.{ClassOk, WellFormed}
 use Rattle.model.proofs.Table.{slab-ok}
 use Rattle.model.proofs.Lists.{open-slab, open-other}
 use Rattle.model.proofs.FreeChunk.{kept-well}
-use Rattle.image.specs.Image.{Image, paint}
-use Rattle.image.specs.Update.{setLinks}
+use Rattle.image.specs.Image.{Image, paint, setLinks}
 use Rattle.lists.specs.Links.{between}
 use Rattle.lists.specs.Nodes.{firstIn, push}
 use Rattle.lists.proofs.Laws.{Relinked, push-relinked}

@@ -21,7 +21,8 @@ use Rattle.model.specs.State.{Page, idle, slab, taken, inside, edge, State}
 use Rattle.model.specs.WellFormed.{WellFormed}
 use Rattle.model.proofs.Classes.{small-chunks, large-chunks}
 use Rattle.model.proofs.Table.{in-table}
-use Rattle.maps.specs.Bitmap.{mark, bitsOf, withMark, mapBytes, newMap, splice, withNewMap}
+use Rattle.maps.specs.Bitmap.{mark, bitsOf, withMark}
+use Rattle.maps.specs.Mirror.{mapBytes, newMap, splice, withNewMap}
 use Rattle.maps.proofs.Bits.{bits-ext, bit-byte, byte-is}
 use Rattle.maps.proofs.Marks.{mark-at, mark-byte, length-withMark, withMark-outside, withMark-small, mark-same, mark-other}
 use Rattle.maps.proofs.Maps.{length-mapBytes, length-map, map-inside, map-outside}

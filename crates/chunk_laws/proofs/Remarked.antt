@@ -27,7 +27,8 @@ use Rattle.model.specs.WellFormed.{ClassOk, WellFormed}
 use Rattle.model.proofs.Classes.{large-chunks}
 use Rattle.model.proofs.Table.{in-table, slab-ok}
 use Rattle.model.proofs.Lists.{open-is}
-use Rattle.maps.specs.Bitmap.{mark, withMark, lowestClear}
+use Rattle.maps.specs.Bitmap.{mark, withMark}
+use Rattle.maps.specs.Mirror.{lowestClear}
 use Rattle.image.specs.Image.{Image, paint}
 use Rattle.image.specs.Update.{setMap}
 use Rattle.image.proofs.Fits.{Fits}

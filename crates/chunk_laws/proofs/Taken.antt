@@ -23,8 +23,7 @@ use Rattle.model.proofs.Table.{slab-ok}
 use Rattle.model.proofs.Classes.{lowest-clear}
 use Rattle.model.proofs.Lists.{open-slab}
 use Rattle.model.proofs.MarkChunk.{mark-well}
-use Rattle.image.specs.Image.{Image, paint}
-use Rattle.image.specs.Update.{setLinks}
+use Rattle.image.specs.Image.{Image, paint, setLinks}
 use Rattle.image.proofs.Paint.{links-paint}
 use Rattle.lists.specs.Nodes.{unlink}
 use Rattle.lists.proofs.Laws.{Relinked, unlink-relinked}

@@ -11,7 +11,8 @@ use Rattle.model.specs.State.{slab, Run, State}
 use Rattle.model.specs.Runs.{fit}
 use Rattle.model.specs.Calls.{tallied, cutPage, markChunk, keepPage, dropPage}
 use Rattle.model.specs.WellFormed.{WellFormed}
-use Rattle.maps.specs.Bitmap.{withMark, lowestClear}
+use Rattle.maps.specs.Bitmap.{withMark}
+use Rattle.maps.specs.Mirror.{lowestClear}
 use Rattle.rules.specs.Bytes.{pagesIn, mapBase}
 use Rattle.drawing.specs.Draw.{draw}
 use Rattle.classes.specs.Classes.{chunkRefused}

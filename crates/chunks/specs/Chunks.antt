@@ -8,7 +8,8 @@ use Rattle.records.specs.Layout.{noPage}
 use Rattle.records.specs.declared.Links.{Links}
 use Rattle.records.specs.Page.{linksAt, withLinks}
 use Rattle.model.specs.Classes.{own}
-use Rattle.maps.specs.Bitmap.{withMark, withNewMap}
+use Rattle.maps.specs.Bitmap.{withMark}
+use Rattle.maps.specs.Mirror.{withNewMap}
 use Rattle.lists.specs.Links.{unlinked, pushed}
 use Rattle.rules.specs.Drawn.{links}
 use Rattle.rules.specs.Bytes.{mapBase}

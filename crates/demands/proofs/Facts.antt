@@ -17,7 +17,8 @@ use Rattle.words.specs.Word.{Bytes}
 use Rattle.records.specs.Layout.{noPage}
 use Rattle.records.specs.declared.Links.{Links}
 use Rattle.records.specs.Page.{linksAt}
-use Rattle.maps.specs.Bitmap.{mark, lowestClear}
+use Rattle.maps.specs.Bitmap.{mark}
+use Rattle.maps.specs.Mirror.{lowestClear}
 use Rattle.model.specs.Classes.{chunks, lowest}
 use Rattle.model.specs.State.{Page, slab, edge, Run, State, isIdle, marksOf}
 use Rattle.model.specs.WellFormed.{WellFormed}

@@ -13,12 +13,12 @@ use Rattle.model.specs.Classes.{needOf}
 use Rattle.model.specs.State.{State}
 use Rattle.model.specs.WellFormed.{WellFormed}
 use Rattle.model.specs.Calls.{Call, Alloc, Free, Answer, at, freed, no, fresh, step}
-use Rattle.model.specs.Live.{Block, noted, NoOverlap, LiveSet, World, next, runFrom}
+use Rattle.model.specs.Live.{Block, noted, LiveSet, World, next, runFrom}
 use Rattle.model.specs.Effects.{Effect, AllocEffect, FreeEffect}
 use Rattle.model.specs.Expected.{expected}
 use Rattle.model.specs.View.{shown}
 use Rattle.model.specs.Ruling.{ruling}
-use Rattle.model.specs.Claim.{Faithful as Followed}
+use Rattle.model.specs.Claim.{Faithful as Followed, NoOverlap}
 use Rattle.model.proofs.Claim.{claims}
 use Rattle.format.specs.Format.{formatted}
 use Rattle.rules.specs.Bytes.{pagesIn, brokenRule, read}

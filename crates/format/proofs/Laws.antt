@@ -8,8 +8,7 @@ use borrow.Author.Tests.{lt-ltb, le-ltb, le-leb, lt-leb}
 use Rattle.base.specs.Tests.{pick}
 use Rattle.records.specs.Layout.{pageCount}
 use Rattle.records.specs.Header.{withHeader}
-use Rattle.image.specs.Image.{headerOf, paint}
-use Rattle.image.specs.Update.{setLinks}
+use Rattle.image.specs.Image.{headerOf, paint, setLinks}
 use Rattle.image.proofs.Paint.{links-paint}
 use Rattle.answers.specs.Outcome.{granted, refused}
 use Rattle.answers.specs.declared.Refusal.the-variants.{TooShort, TooLong}

@@ -11,8 +11,7 @@ use Rattle.records.specs.declared.Links.{Links}
 use Rattle.records.specs.Header.{withHeader}
 use Rattle.records.specs.Class.{packCounts, packTally}
 use Rattle.records.specs.Page.{packLinks, withLinks}
-use Rattle.image.specs.Image.{Image, headerOf, writeAt, paint}
-use Rattle.image.specs.Update.{setLinks}
+use Rattle.image.specs.Image.{Image, headerOf, writeAt, paint, setLinks}
 use Rattle.answers.specs.Outcome.{Outcome, granted, refused}
 use Rattle.answers.specs.declared.Refusal.the-variants.{TooShort, TooLong}
 

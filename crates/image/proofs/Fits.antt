@@ -5,8 +5,8 @@ use Rattle.base.proofs.Functions.{upd-keeps}
 use Rattle.records.specs.declared.ClassRecord.{ClassRecord}
 use Rattle.records.specs.declared.Links.{Links}
 use Rattle.records.proofs.Laws.{HeaderFits, ClassFits, LinksFit}
-use Rattle.image.specs.Image.{Image, headerOf}
-use Rattle.image.specs.Update.{setFree, setFirstRun, setClass, setLinks}
+use Rattle.image.specs.Image.{Image, headerOf, setLinks}
+use Rattle.image.specs.Update.{setFree, setFirstRun, setClass}
 
 pub record Fits (P : ℕ) (I : Image) : Type 0 where
   pub free-pages : I .freePages < 65536

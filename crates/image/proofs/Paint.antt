@@ -18,8 +18,8 @@ use Rattle.records.specs.Header.{packHeader, unpackHeader, headerAt, withHeader
 use Rattle.records.specs.Class.{packCounts, packTally, classAt, withClass}
 use Rattle.records.specs.Page.{packLinks, unpackLinks, linksAt, withLinks}
 use Rattle.records.proofs.Laws.{HeaderFits, ClassFits, LinksFit, unpack-pack-header, unpack-pack-class, unpack-pack-links}
-use Rattle.image.specs.Image.{Image, headerOf, writeAt, paint, Same}
-use Rattle.image.specs.Update.{setFree, setFirstRun, setClass, setMap, setLinks}
+use Rattle.image.specs.Image.{Image, headerOf, writeAt, paint, Same, setLinks}
+use Rattle.image.specs.Update.{setFree, setFirstRun, setClass, setMap}
 use Rattle.image.proofs.Places.{class-apart, counts-tally, class-below}
 use Rattle.image.proofs.Write.{length-write, write-ext, byte-past, byte-kept, set-past, word-past, set-write, word-write}
 

@@ -3,6 +3,7 @@
 use mathlib.Core.Path.{_≡_}
 use mathlib.Core.List.{List}
 use Prim.Native.Nat.{ℕ, zero, suc, _-_, _<_}
+use Rattle.base.specs.Functions.{upd}
 use Rattle.words.specs.Word.{setWord}
 use Rattle.records.specs.Layout.{countsPlace, tallyPlace, mapPlace, linksPlace}
 use Rattle.records.specs.declared.Header.{Header}
@@ -19,6 +20,13 @@ pub record Image : Type 0 where
   pub class : ℕ → ClassRecord
   pub map : ℕ → ℕ
   pub links : ℕ → Links
+
+-- with other links, of all pages or of page p
+abbrev pub setAllLinks : Image → (ℕ → Links) → Image
+setAllLinks I f = record { freePages = I .freePages; firstRun = I .firstRun; class = I .class; map = I .map; links = f }
+
+abbrev pub setLinks : Image → ℕ → Links → Image
+setLinks I p l = setAllLinks I (upd (I .links) p l)
 
 -- edition 1 has class records of 2 words, smallest shift 3, page shift 12
 abbrev pub headerOf : ℕ → ℕ → ℕ → ℕ → Header

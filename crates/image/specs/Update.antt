@@ -2,7 +2,6 @@
 use Prim.Native.Nat.{ℕ}
 use Rattle.base.specs.Functions.{upd}
 use Rattle.records.specs.declared.ClassRecord.{ClassRecord}
-use Rattle.records.specs.declared.Links.{Links}
 use Rattle.image.specs.Image.{Image}
 
 abbrev pub setFree : Image → ℕ → Image
@@ -16,9 +15,3 @@ setClass I c r = record { freePages = I .freePages; firstRun = I .firstRun; clas
 
 abbrev pub setMap : Image → ℕ → ℕ → Image
 setMap I p v = record { freePages = I .freePages; firstRun = I .firstRun; class = I .class; map = upd (I .map) p v; links = I .links }
-
-abbrev pub setAllLinks : Image → (ℕ → Links) → Image
-setAllLinks I f = record { freePages = I .freePages; firstRun = I .firstRun; class = I .class; map = I .map; links = f }
-
-abbrev pub setLinks : Image → ℕ → Links → Image
-setLinks I p l = setAllLinks I (upd (I .links) p l)

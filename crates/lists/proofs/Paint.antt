@@ -14,8 +14,7 @@ use Rattle.records.specs.declared.Header.{Header}
 use Rattle.records.specs.declared.ClassRecord.{ClassRecord}
 use Rattle.records.specs.declared.Links.{Links}
 use Rattle.records.proofs.Laws.{ClassFits, LinksFit}
-use Rattle.image.specs.Image.{Image, paint}
-use Rattle.image.specs.Update.{setLinks}
+use Rattle.image.specs.Image.{Image, paint, setLinks}
 use Rattle.image.proofs.Paint.{paint-ext, links-paint, class-paint, header-paint, links-shown, class-shown, header-shown}
 use Rattle.image.proofs.Fits.{Fits, header-fits, fits-first-run, fits-class, fits-links}
 use Rattle.lists.specs.Links.{firstTo, between, nextTo, prevTo, firstOf, withFirstRun, withFirstPage, withFirst, linkedNext, linkedPrev, withNext, withPrev, unlinked, pushedBefore, pushed, replaced}

@@ -6,8 +6,8 @@ use Rattle.base.specs.Tests.{pick}
 use Rattle.base.specs.Links.{Linked}
 use Rattle.records.specs.Layout.{noPage}
 use Rattle.records.specs.declared.Links.{Links}
-use Rattle.image.specs.Image.{Image}
-use Rattle.image.specs.Update.{setFirstRun, setClass, setLinks}
+use Rattle.image.specs.Image.{Image, setLinks}
+use Rattle.image.specs.Update.{setFirstRun, setClass}
 use Rattle.lists.specs.Links.{firstTo, between, nextTo, prevTo}
 
 abbrev pub head : ℕ → ℕ

@@ -12,7 +12,8 @@ use Rattle.base.specs.Search.{least, any}
 use Rattle.base.proofs.Search.{any-false}
 use Rattle.words.specs.Word.{Bytes, withWord}
 use Rattle.words.proofs.Laws.{set-in}
-use Rattle.maps.specs.Bitmap.{bitsOf, mapBytes, newMap, splice}
+use Rattle.maps.specs.Bitmap.{bitsOf}
+use Rattle.maps.specs.Mirror.{mapBytes, newMap, splice}
 use Rattle.maps.proofs.Words.{setWord-map}
 use Rattle.maps.proofs.Maps.{length-mapBytes}
 use Rattle.maps.proofs.NewMap.{length-newMap, new-more}

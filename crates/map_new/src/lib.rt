@@ -3,7 +3,8 @@ ghost use mathlib.Core.Path.{_≡_};
 ghost use Prim.Native.Nat.{_≤_};
 ghost use lib.Dec.{ltb};
 ghost use lib.ListN.{length};
-ghost use Rattle.maps.specs.Bitmap.{bitsOf, newMap, withNewMap};
+ghost use Rattle.maps.specs.Bitmap.{bitsOf};
+ghost use Rattle.maps.specs.Mirror.{newMap, withNewMap};
 
 // A word whose first k bits are set.
 fn top_word(k: u16) -> u64

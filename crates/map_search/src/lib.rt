@@ -2,7 +2,7 @@
 ghost use mathlib.Core.Path.{_≡_};
 ghost use lib.Dec.{eqb};
 ghost use Rattle.base.specs.Tests.{pick};
-ghost use Rattle.maps.specs.Bitmap.{lowestClear};
+ghost use Rattle.maps.specs.Mirror.{lowestClear};
 
 // How many bits of a byte a search passes at once: all of a full one.
 fn passed(b: u8) -> u16

@@ -12,7 +12,8 @@ use Rattle.base.specs.Functions.{upd}
 use Rattle.base.proofs.Cases.{eq?, lt?, Out, in?}
 use Rattle.base.proofs.Functions.{upd-same, upd-other}
 use Rattle.words.specs.Word.{Bytes}
-use Rattle.maps.specs.Bitmap.{mark, bitsOf, withMark, mapBytes, splice}
+use Rattle.maps.specs.Bitmap.{mark, bitsOf, withMark}
+use Rattle.maps.specs.Mirror.{mapBytes, splice}
 use Rattle.maps.proofs.Bits.{bits-ext, bit-byte, byte-small, byte-is}
 use Rattle.maps.proofs.Marks.{mark-at, length-withMark, withMark-outside, withMark-small, mark-same, mark-other}
 use Rattle.maps.proofs.Splice.{length-splice, splice-inside, splice-outside, splice-bytes}

@@ -11,7 +11,8 @@ use lib.ListN.{length, take, drop, set, drop-of-length-le}
 use lib.Seq.{drop-cons, set-at, append-snoc}
 use borrow.Author.Tests.{lt-ltb, le-ltb}
 use Rattle.base.proofs.Cases.{lt?}
-use Rattle.maps.specs.Bitmap.{bitsOf, mapBytes, newMap, splice}
+use Rattle.maps.specs.Bitmap.{bitsOf}
+use Rattle.maps.specs.Mirror.{mapBytes, newMap, splice}
 use Rattle.maps.proofs.Bits.{bits-ext}
 use Rattle.maps.proofs.Maps.{length-mapBytes}
 use Rattle.maps.proofs.Splice.{part-length, splice-lent}

@@ -12,7 +12,8 @@ use Rattle.base.specs.Search.{least, any}
 use Rattle.base.specs.Tests.{pick}
 use Rattle.base.proofs.Cases.{eq?, lt?}
 use Rattle.base.proofs.Search.{least-is, any-false}
-use Rattle.maps.specs.Bitmap.{bitOf, mark, lowestClear}
+use Rattle.maps.specs.Bitmap.{bitOf, mark}
+use Rattle.maps.specs.Mirror.{lowestClear}
 use Rattle.maps.proofs.Marks.{mark-at}
 
 -- ---- the code's search

@@ -8,7 +8,7 @@ use lib.ListN.{length, take, drop, getD, length-append, length-drop, List·getD-
 use lib.Seq.{drop-drop, length-take-le, getD-append-add, getD-take, getD-drop}
 use Rattle.base.proofs.Cases.{Out, in?}
 use Rattle.words.specs.Word.{Bytes}
-use Rattle.maps.specs.Bitmap.{splice}
+use Rattle.maps.specs.Mirror.{splice}
 
 -- the list that a lent part from at to e came back to, as the borrow checker has it
 pub splice-lent : (s ys : List ℕ) (at e : ℕ) → at ≤ e → length ys ≡ e - at → take at s ++ (ys ++ drop (e - at) (drop at s)) ≡ splice s at ys

@@ -8,7 +8,8 @@ use lib.ListN.{length, getD}
 use Rattle.base.specs.Functions.{upd}
 use Rattle.words.specs.Word.{Bytes, wordAt, word, withWord, setWord}
 use Rattle.words.proofs.Laws.{words, word-in, set-in, setWord-back}
-use Rattle.maps.specs.Bitmap.{mark, bitsOf, withMark, mapBytes, splice}
+use Rattle.maps.specs.Bitmap.{mark, bitsOf, withMark}
+use Rattle.maps.specs.Mirror.{mapBytes, splice}
 use Rattle.maps.proofs.Bits.{bits-small, bits-join, bits-injective, byte-is}
 use Rattle.maps.proofs.Marks.{mark-at}
 use Rattle.maps.proofs.Maps.{map-unique, map-withMark}

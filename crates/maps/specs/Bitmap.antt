@@ -2,14 +2,12 @@
 -- A map is named by the place `base` of its first byte in the pool. Mark i of it is bit 7 - i % 8 of byte base + i / 8, so that
 -- chunk 0 has the top bit of the first byte; a mark is set where its chunk is taken.
 use Prim.Native.Nat.{ℕ, zero, suc, _+_, _-_, _*_, _/_, _%_, _^_}
-use mathlib.Core.Bool.{Bool, not}
-use mathlib.Core.List.{List, [], _∷_, _++_}
-use lib.Dec.{eqb, leb, ltb}
-use lib.ListN.{getD, set, length, take, drop}
+use mathlib.Core.Bool.{Bool}
+use mathlib.Core.List.{List}
+use lib.Dec.{eqb}
+use lib.ListN.{getD, set}
 use Rattle.base.specs.Count.{bit}
 use Rattle.base.specs.Functions.{upd}
-use Rattle.base.specs.Search.{least}
-use Rattle.base.specs.Tests.{pick}
 
 -- bit j of a byte, from the top
 abbrev pub bitOf : ℕ → ℕ → Bool
@@ -31,24 +29,3 @@ withBit b j v = bitsOf (upd (bitOf b) j v) 8
 -- the pool with mark i of the map at base set or clear; a mark outside the pool is not written
 unfoldable pub withMark : List ℕ → ℕ → ℕ → Bool → List ℕ
 withMark s base i v = set s (base + i / 8) (withBit (getD s (base + i / 8) 0) (i % 8) v)
-
--- the lowest of the first n marks that is clear; n where all are set
-unfoldable pub lowestClear : List ℕ → ℕ → ℕ → ℕ
-lowestClear s base n = least (λ i. not (mark s base i)) n
-
--- the n bytes of a map that has the marks m
-unfoldable pub mapBytes : (ℕ → Bool) → ℕ → List ℕ
-mapBytes m zero = []
-mapBytes m (suc n) = mapBytes m n ++ (bitsOf (λ i. m (8 * n + i)) 8 ∷ [])
-
--- the n bytes of a map whose first k marks are set
-unfoldable pub newMap : ℕ → ℕ → List ℕ
-newMap n k = mapBytes (λ i. ltb i k) n
-
--- s with the elements from index at on replaced by ys, as many as ys has
-unfoldable pub splice : List ℕ → ℕ → List ℕ → List ℕ
-splice s at ys = take at s ++ (ys ++ drop (at + length ys) s)
-
--- the pool with a new map of n bytes at base; a map that does not lie inside the pool is not written
-unfoldable pub withNewMap : List ℕ → ℕ → ℕ → ℕ → List ℕ
-withNewMap s base n k = pick (leb (base + n) (length s)) (splice s base (newMap n k)) s

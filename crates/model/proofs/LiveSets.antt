@@ -15,7 +15,8 @@ use Rattle.model.specs.Classes.{chunk, chunks, own, needOf}
 use Rattle.model.specs.State.{Page, idle, slab, taken, inside, edge, State}
 use Rattle.model.specs.WellFormed.{TableOk, WellFormed}
 use Rattle.model.specs.Calls.{Call, Alloc, Free, Answer, at, freed, no}
-use Rattle.model.specs.Live.{Block, small, offset, On, Live, chunksOn, blocksOn, blocksBelow, blocks, Rising, blockFor, elsewhere, noted, NoOverlap, LiveSet}
+use Rattle.model.specs.Live.{Block, small, offset, On, Live, chunksOn, blocksOn, blocksBelow, blocks, Rising, blockFor, elsewhere, noted, LiveSet}
+use Rattle.model.specs.Claim.{NoOverlap}
 use Rattle.model.specs.Effects.{Adds, Strikes, AllocEffect, FreeEffect, Effect}
 use Rattle.model.proofs.Classes.{chunk-pos}
 use Rattle.model.proofs.Table.{in-table}

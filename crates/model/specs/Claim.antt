@@ -9,7 +9,7 @@ use Rattle.model.specs.Classes.{chunk, chunks, own, chunkOf, pages, need
 use Rattle.model.specs.State.{Page, idle, slab, State, isOpen}
 use Rattle.model.specs.WellFormed.{Stretch, WellFormed}
 use Rattle.model.specs.Calls.{Call, Alloc, Free, Answer, at, freed, no, Reply, noRoom, fresh, tallied, step}
-use Rattle.model.specs.Live.{Block, small, large, offset, extent, Disjoint, Off, Live, blocks, BlocksPlaced, blockFor, NoOverlap, LiveSet, World, runFrom, begin}
+use Rattle.model.specs.Live.{Block, small, large, offset, extent, Disjoint, Off, Live, blocks, BlocksPlaced, blockFor, LiveSet, World, runFrom, begin}
 use Rattle.model.specs.Effects.{Effect, SlabsFrom, Stays, without}
 use Rattle.model.specs.View.{vacant, class, runOf, within, shown}
 use Rattle.model.specs.Expected.{covers, freePage, expected}
@@ -17,6 +17,15 @@ use Rattle.model.specs.Ruling.{verdict, clearIn, pageIn, runIn, ruling}
 use Rattle.model.specs.Examples.{ExamplesHold}
 
 -- ---- demand 3: a list of calls, refused ones included, from a fresh pool
+
+-- a granted alloc overlaps no block of the live set
+unfoldable pub NoOverlap : List Block → Call → Answer → Type 0
+NoOverlap B (Alloc n) (at off) = (e : Block) → Mem e B → Disjoint (blockFor (needOf n) off) e
+NoOverlap B (Alloc n) (freed k) = Unit {0}
+NoOverlap B (Alloc n) (no k) = Unit {0}
+NoOverlap B (Free off) (at a) = Unit {0}
+NoOverlap B (Free off) (freed k) = Unit {0}
+NoOverlap B (Free off) (no k) = Unit {0}
 
 -- the state and the live set of a pool of P pages
 pub record Faithful (P : ℕ) (w : World) : Type 0 where

@@ -91,15 +91,6 @@ noted B (Free off) (at a) = B
 noted B (Free off) (freed k) = keep (elsewhere off) B
 noted B (Free off) (no k) = B
 
--- a granted alloc overlaps no block of the live set
-unfoldable pub NoOverlap : List Block → Call → Answer → Type 0
-NoOverlap B (Alloc n) (at off) = (e : Block) → Mem e B → Disjoint (blockFor (needOf n) off) e
-NoOverlap B (Alloc n) (freed k) = Unit {0}
-NoOverlap B (Alloc n) (no k) = Unit {0}
-NoOverlap B (Free off) (at a) = Unit {0}
-NoOverlap B (Free off) (freed k) = Unit {0}
-NoOverlap B (Free off) (no k) = Unit {0}
-
 -- B lists the live blocks of the pages f, each once
 pub record LiveSet (B : List Block) (f : ℕ → Page) : Type 0 where
   pub once : NoDup B

@@ -19,8 +19,8 @@ use Rattle.model.specs.State.{Page, taken, inside, Run, isIdle}
 use Rattle.model.specs.Runs.{fit, carve, cutFront}
 use Rattle.model.specs.WellFormed.{RunsOk}
 use Rattle.model.proofs.Runs.{same-run, fit-found, remains, cut-mem, carve-from, carved}
-use Rattle.image.specs.Image.{Image}
-use Rattle.image.specs.Update.{setFree, setAllLinks}
+use Rattle.image.specs.Image.{Image, setAllLinks}
+use Rattle.image.specs.Update.{setFree}
 use Rattle.lists.specs.Links.{between}
 use Rattle.lists.specs.Nodes.{firstIn, unlink, put}
 use Rattle.rules.specs.Drawn.{starts, pageLinks}

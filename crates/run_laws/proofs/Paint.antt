@@ -13,8 +13,8 @@ use Rattle.base.proofs.Functions.{upd-same, upd-other, fill-in, fill-out}
 use Rattle.records.specs.Layout.{noPage}
 use Rattle.records.specs.declared.Links.{Links}
 use Rattle.records.proofs.Laws.{LinksFit}
-use Rattle.image.specs.Image.{Image, paint}
-use Rattle.image.specs.Update.{setFree, setLinks}
+use Rattle.image.specs.Image.{Image, paint, setLinks}
+use Rattle.image.specs.Update.{setFree}
 use Rattle.image.proofs.Paint.{paint-ext, links-paint, header-paint, links-shown, header-shown}
 use Rattle.image.proofs.Fits.{Fits, header-fits, fits-free, fits-links}
 use Rattle.lists.specs.Links.{between}

@@ -17,8 +17,7 @@ use Rattle.records.specs.Layout.{noPage}
 use Rattle.records.specs.declared.Links.{Links}
 use Rattle.model.specs.State.{Run}
 use Rattle.model.specs.WellFormed.{RunsOk}
-use Rattle.image.specs.Image.{Image}
-use Rattle.image.specs.Update.{setAllLinks}
+use Rattle.image.specs.Image.{Image, setAllLinks}
 use Rattle.lists.specs.Links.{between}
 use Rattle.lists.specs.Nodes.{head, firstIn, Listed, putFirst, putNext, unlink, push, put}
 use Rattle.lists.proofs.Laws.{next-page, next-head, unlink-listed, push-listed, put-listed, unlink-off, push-off, put-off, unlink-relinked, push-relinked, put-relinked}

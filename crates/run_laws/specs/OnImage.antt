@@ -7,8 +7,8 @@ use Rattle.base.specs.Functions.{fill}
 use Rattle.records.specs.Layout.{noPage}
 use Rattle.records.specs.declared.Links.{Links}
 use Rattle.model.specs.State.{Run}
-use Rattle.image.specs.Image.{Image}
-use Rattle.image.specs.Update.{setFree, setAllLinks, setLinks}
+use Rattle.image.specs.Image.{Image, setLinks, setAllLinks}
+use Rattle.image.specs.Update.{setFree}
 use Rattle.lists.specs.Nodes.{unlink, push, put}
 use Rattle.run_extents.specs.Extents.{plain}
 use Rattle.run_neighbours.specs.Release.{oneOf}

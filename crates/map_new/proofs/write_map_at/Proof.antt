@@ -3,7 +3,7 @@ use native.Mathlib.Omega.{arith}
 use lib.ListN.{length}
 use mathlib.Core.Path.{refl}
 use Rattle.base.proofs.Tests.{pick-le, pick-gt}
-use Rattle.maps.specs.Bitmap.{withNewMap}
+use Rattle.maps.specs.Mirror.{withNewMap}
 use Rattle.maps.proofs.NewMap.{new-lent}
 use borrow.Author.Needs.{needs}
 use Rattle.map_new.proofs.write_map_at.Statement.{statement}

@@ -4,7 +4,7 @@ use Prim.Native.Nat.{ℕ, _-_, _≤_}
 use native.Mathlib.Omega.{arith}
 use lib.ListN.{length, drop, length-set}
 use borrow.Author.Needs.{needs}
-use Rattle.maps.specs.Bitmap.{newMap}
+use Rattle.maps.specs.Mirror.{newMap}
 use Rattle.maps.proofs.NewMap.{new-done}
 use Rattle.map_new.proofs.First.{first-written, more-zero}
 use Rattle.map_new.proofs.write_new_map.Statement.{statement}
