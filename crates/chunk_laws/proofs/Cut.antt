@@ -15,6 +15,7 @@ use Rattle.base.proofs.Functions.{upd-same, upd-other, upd-out}
 use Rattle.words.specs.Word.{Bytes}
 use Rattle.records.specs.Layout.{noPage}
 use Rattle.records.specs.declared.ClassRecord.{ClassRecord}
+use Rattle.records.specs.Class.{firstTo}
 use Rattle.model.specs.Classes.{own, counted, hasTaken, newMarks}
 use Rattle.model.specs.State.{Page, idle, slab, Run, State, isIdle}
 use Rattle.model.specs.Runs.{fit, carve}
@@ -28,11 +29,11 @@ use Rattle.model.proofs.CutPage.{cut-well}
 use Rattle.image.specs.Image.{Image, paint, setLinks}
 use Rattle.image.specs.Update.{setMap}
 use Rattle.image.proofs.Fits.{Fits}
-use Rattle.lists.specs.Links.{firstTo, between}
+use Rattle.lists.specs.Links.{between}
 use Rattle.lists.specs.Nodes.{firstIn, push}
 use Rattle.lists.proofs.Laws.{Relinked, push-relinked}
 use Rattle.lists.proofs.Paint.{Maybe}
-use Rattle.rules.specs.Drawn.{mapOf, stateImage}
+use Rattle.rules.specs.Drawn.{mapOf, classRecord, stateImage}
 use Rattle.rules.proofs.Fits.{state-fits}
 use Rattle.shows.specs.Shows.{ShowsLinks}
 use Rattle.shows.proofs.Shows.{state-shows}
@@ -149,13 +150,7 @@ module _ (w : ℕ) (wide : 2 ≤ w) (narrow : w ≤ 255) (s : List ℕ) (B : Byt
       let t : shown m .total c % 16777216 + counted c ≡ shown n .total c =
       omega (arith, F .total, rw (was, here, eq-eqb c c refl) at (total-frame m n refl p below there c)) in
       let a : asked (m .tally c) ≡ n .tally c = sym (upd-same (m .tally) c (asked (m .tally c))) in
-      λ j. record {
-        first = record { 0 = stateImage n .class c .first .0 };
-        used = u j;
-        total = t j;
-        reqs = a j .reqs;
-        fails = a j .fails;
-      }
+      λ j. classRecord (stateImage n .class c .first .0) (u j) (t j) (a j)
 
   -- ---- lists
 

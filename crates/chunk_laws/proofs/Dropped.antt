@@ -17,6 +17,7 @@ use Rattle.base.proofs.Functions.{upd-same, upd-other, fill-in, fill-out}
 use Rattle.words.specs.Word.{Bytes}
 use Rattle.records.specs.Layout.{pagesFrom}
 use Rattle.records.specs.declared.ClassRecord.{ClassRecord}
+use Rattle.records.specs.Class.{firstTo}
 use Rattle.model.specs.Classes.{chunks, own, counted, hasClear, hasTaken}
 use Rattle.model.specs.State.{Page, idle, slab, State, isIdle}
 use Rattle.model.specs.Runs.{joinRuns, startsAt, endsAt}
@@ -31,10 +32,9 @@ use Rattle.maps.specs.Bitmap.{bitsOf, withMark}
 use Rattle.maps.proofs.Bits.{bits-ext}
 use Rattle.image.specs.Image.{Image, paint}
 use Rattle.image.specs.Update.{setMap}
-use Rattle.lists.specs.Links.{firstTo}
 use Rattle.lists.specs.Nodes.{unlink}
 use Rattle.lists.proofs.Laws.{Relinked, unlink-relinked}
-use Rattle.rules.specs.Drawn.{mapOf, stateImage}
+use Rattle.rules.specs.Drawn.{mapOf, classRecord, stateImage}
 use Rattle.rules.specs.Rules.{freeIn}
 use Rattle.rules.specs.Bytes.{mapBase}
 use Rattle.rules.proofs.Fits.{state-fits}
@@ -131,13 +131,7 @@ module _ (w : ℕ) (wide : 2 ≤ w) (narrow : w ≤ 255) (s : List ℕ) (B : Byt
   own-record =
       let u : usedOf m c - 1 ≡ usedOf n c = omega (arith, rw (is, here) at (used-frame m n refl p below there c), used-none c idle refl, used-one) in
       let t : shown m .total c - counted c ≡ shown n .total c = omega (arith, rw (is, here, eq-eqb c c refl) at (total-frame m n refl p below there c)) in
-      λ j. record {
-        first = record { 0 = stateImage n .class c .first .0 };
-        used = u j;
-        total = t j;
-        reqs = m .tally c .reqs;
-        fails = m .tally c .fails;
-      }
+      λ j. classRecord (stateImage n .class c .first .0) (u j) (t j) (m .tally c)
 
   -- ---- lists
 

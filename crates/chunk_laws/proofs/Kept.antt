@@ -28,7 +28,7 @@ use Rattle.lists.specs.Links.{between}
 use Rattle.lists.specs.Nodes.{firstIn, push}
 use Rattle.lists.proofs.Laws.{Relinked, push-relinked}
 use Rattle.lists.proofs.Paint.{Maybe}
-use Rattle.rules.specs.Drawn.{stateImage}
+use Rattle.rules.specs.Drawn.{classRecord, stateImage}
 use Rattle.rules.proofs.Fits.{state-fits}
 use Rattle.shows.specs.Shows.{Unlisted}
 use Rattle.shows.proofs.Shows.{state-shows, not-start, not-listed}
@@ -84,13 +84,7 @@ module _ (w : ℕ) (wide : 2 ≤ w) (narrow : w ≤ 255) (s : List ℕ) (B : Byt
   own-record =
       let u : usedOf m c - 1 ≡ usedOf n c = omega (arith, used-more, remarked.used-own m W few w wide narrow s B room p c k is i false in-range l (m .tally)) in
       let t : shown m .total c ≡ shown n .total c = sym (remarked.total-same m W few w wide narrow s B room p c k is i false in-range l (m .tally) c) in
-      λ j. record {
-        first = record { 0 = stateImage n .class c .first .0 };
-        used = u j;
-        total = t j;
-        reqs = m .tally c .reqs;
-        fails = m .tally c .fails;
-      }
+      λ j. classRecord (stateImage n .class c .first .0) (u j) (t j) (m .tally c)
 
   -- ---- the lists
 

@@ -13,7 +13,8 @@ use Rattle.base.proofs.Cases.{eq?}
 use Rattle.base.proofs.Functions.{upd-same, upd-other}
 use Rattle.records.specs.Layout.{noPage}
 use Rattle.records.specs.declared.ClassRecord.{ClassRecord}
-use Rattle.records.specs.Class.{classAt, withClass}
+use Rattle.records.specs.Class.{firstTo, classAt, withClass}
+use Rattle.records.proofs.Laws.{first-fits}
 use Rattle.model.specs.State.{State}
 use Rattle.model.specs.View.{usedOf, shown}
 use Rattle.model.specs.WellFormed.{TableOk, WellFormed}
@@ -21,10 +22,9 @@ use Rattle.image.specs.Image.{Image, paint}
 use Rattle.image.specs.Update.{setClass, setMap}
 use Rattle.image.proofs.Fits.{Fits}
 use Rattle.image.proofs.Paint.{paint-ext, class-paint, class-shown}
-use Rattle.lists.specs.Links.{firstTo}
 use Rattle.lists.specs.Nodes.{head, firstIn, Listed}
 use Rattle.lists.proofs.Laws.{next-head}
-use Rattle.rules.specs.Drawn.{starts, mapOf, stateImage}
+use Rattle.rules.specs.Drawn.{starts, mapOf, classRecord, stateImage}
 use Rattle.rules.proofs.Fits.{state-fits}
 use Rattle.shows.specs.Shows.{ShowsLinks}
 use Rattle.shows.proofs.Shows.{has-links}
@@ -73,13 +73,7 @@ module _ (m n : State) (W : WellFormed m) (Wn : WellFormed n) (size : n .size �
   midway-fits = record {
     free-pages = after .free-pages;
     first-run = after .first-run;
-    class = λ d l. record {
-      first = after .class d l .first;
-      used = before .class d l .used;
-      total = before .class d l .total;
-      reqs = before .class d l .reqs;
-      fails = before .class d l .fails;
-    };
+    class = λ d l. first-fits (stateImage m .class d) _ (before .class d l) (after .class d l .first);
     links = after .links;
   }
 
@@ -109,13 +103,7 @@ module _ (m n : State) (W : WellFormed m) (Wn : WellFormed n) (size : n .size �
   pub class-same : (d : ℕ) → usedOf n d ≡ usedOf m d → shown n .total d ≡ shown m .total d → n .tally d ≡ m .tally d
       → firstTo (stateImage m .class d) (stateImage n .class d .first .0) ≡ stateImage n .class d
   unfolding stateImage
-  class-same d u t k = λ i. record {
-    first = record { 0 = headOr noPage (n .lists d) };
-    used = sym u i;
-    total = sym t i;
-    reqs = sym k i .reqs;
-    fails = sym k i .fails;
-  }
+  class-same d u t k = λ i. classRecord (headOr noPage (n .lists d)) (sym u i) (sym t i) (sym k i)
 
   -- the counts of class c are changed last
   pub counts-drawn : (c : ℕ) (f : ℕ → ℕ) (r : ClassRecord) → ((q : ℕ) → q < P → f q ≡ stateImage n .map q) → r ≡ stateImage n .class c

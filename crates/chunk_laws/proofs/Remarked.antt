@@ -19,7 +19,7 @@ use Rattle.words.specs.Word.{Bytes}
 use Rattle.records.specs.Layout.{noPage}
 use Rattle.records.specs.declared.Links.{Links}
 use Rattle.records.specs.declared.ClassRecord.{ClassRecord}
-use Rattle.records.specs.Class.{classAt, withClass}
+use Rattle.records.specs.Class.{firstTo, classAt, withClass}
 use Rattle.model.specs.Classes.{chunks, own, lowest, hasClear, hasTaken}
 use Rattle.model.specs.State.{Page, slab, Run, Tally, State}
 use Rattle.model.specs.View.{usedOn, usedOf, shown}
@@ -33,7 +33,7 @@ use Rattle.image.specs.Image.{Image, paint}
 use Rattle.image.specs.Update.{setMap}
 use Rattle.image.proofs.Fits.{Fits}
 use Rattle.image.proofs.Paint.{links-shown, length-paint}
-use Rattle.lists.specs.Links.{firstTo, between}
+use Rattle.lists.specs.Links.{between}
 use Rattle.lists.specs.Nodes.{prevOf, unlink}
 use Rattle.lists.proofs.Paint.{Maybe, small, fits-prev, fits-next, unlink-paint}
 use Rattle.rules.specs.Drawn.{pageLinks, onList, mapOf, stateImage}

@@ -27,7 +27,7 @@ use Rattle.image.specs.Image.{Image, paint, setLinks}
 use Rattle.image.proofs.Paint.{links-paint}
 use Rattle.lists.specs.Nodes.{unlink}
 use Rattle.lists.proofs.Laws.{Relinked, unlink-relinked}
-use Rattle.rules.specs.Drawn.{stateImage}
+use Rattle.rules.specs.Drawn.{classRecord, stateImage}
 use Rattle.rules.proofs.Fits.{state-fits}
 use Rattle.shows.specs.Shows.{Unlisted, ShowsLinks}
 use Rattle.run_laws.proofs.Starts.{keep-every}
@@ -102,13 +102,7 @@ module _ (w : ℕ) (wide : 2 ≤ w) (narrow : w ≤ 255) (s : List ℕ) (B : Byt
       omega (arith, state-fits W few .class c (omega (arith, page-ok .in-range)) .used, used-more, remarked.used-own m W few w wide narrow s B room p c k is i true (clear .0) l (n l .tally)) in
       let t : shown m .total c ≡ shown (n l) .total c = sym (remarked.total-same m W few w wide narrow s B room p c k is i true (clear .0) l (n l .tally) c) in
       let a : asked (m .tally c) ≡ n l .tally c = sym (upd-same (m .tally) c (asked (m .tally c))) in
-      λ j. record {
-        first = record { 0 = stateImage (n l) .class c .first .0 };
-        used = u j;
-        total = t j;
-        reqs = a j .reqs;
-        fails = a j .fails;
-      }
+      λ j. classRecord (stateImage (n l) .class c .first .0) (u j) (t j) (a j)
 
   -- ---- the lists
 

@@ -1,9 +1,9 @@
 -- Between two states: lists are changed first, and counts and maps are those of the state before.
 use Prim.Native.Nat.{ℕ}
 use Rattle.base.specs.Functions.{upd}
+use Rattle.records.specs.Class.{firstTo}
 use Rattle.model.specs.State.{Page, State}
 use Rattle.image.specs.Image.{Image}
-use Rattle.lists.specs.Links.{firstTo}
 use Rattle.rules.specs.Drawn.{stateImage}
 
 -- the lists, free pages and links of n, the counts and maps of m

@@ -6,7 +6,7 @@ use lib.Dec.{ltb}
 use Rattle.base.specs.Tests.{pick}
 use Rattle.records.specs.Layout.{mapPlace}
 use Rattle.records.specs.declared.ClassRecord.{ClassRecord}
-use Rattle.records.specs.Class.{classAt, withClass}
+use Rattle.records.specs.Class.{usedTo, totalTo, reqsTo, failsTo, classAt, withClass}
 use Rattle.model.specs.Classes.{own, counted}
 use Rattle.model.specs.Calls.{raise}
 
@@ -22,32 +22,29 @@ ownWord c = (2 ^ own c - 1) * 2 ^ (64 - own c)
 
 -- ---- changes of a class record; its counts have 24 bits, so that no sum is too large
 
--- a chunk is handed out
+-- a chunk is asked for
+abbrev pub chunkAsked : ClassRecord → ClassRecord
+chunkAsked r = reqsTo r (raise (r .reqs))
+
+-- and handed out
 abbrev pub chunkUsed : ClassRecord → ClassRecord
-chunkUsed r = record { first = record { 0 = r .first .0 }; used = r .used % 16777216 + 1; total = r .total; reqs = raise (r .reqs); fails = r .fails }
+chunkUsed r = usedTo (chunkAsked r) (r .used % 16777216 + 1)
 
 -- of a new page
 abbrev pub pageUsed : ℕ → ClassRecord → ClassRecord
-pageUsed c r =
-    record {
-      first = record { 0 = r .first .0 };
-      used = r .used % 16777216 + 1;
-      total = r .total % 16777216 + counted c;
-      reqs = raise (r .reqs);
-      fails = r .fails;
-    }
+pageUsed c r = totalTo (chunkUsed r) (r .total % 16777216 + counted c)
+
+-- or could not be handed out
+abbrev pub noneUsed : ClassRecord → ClassRecord
+noneUsed r = failsTo (chunkAsked r) (raise (r .fails))
 
 -- a chunk comes back
 abbrev pub chunkBack : ClassRecord → ClassRecord
-chunkBack r = record { first = record { 0 = r .first .0 }; used = r .used - 1; total = r .total; reqs = r .reqs; fails = r .fails }
+chunkBack r = usedTo r (r .used - 1)
 
 -- and with it its page
 abbrev pub pageBack : ℕ → ClassRecord → ClassRecord
-pageBack c r = record { first = record { 0 = r .first .0 }; used = r .used - 1; total = r .total - counted c; reqs = r .reqs; fails = r .fails }
-
--- no chunk could be handed out
-abbrev pub noneUsed : ClassRecord → ClassRecord
-noneUsed r = record { first = record { 0 = r .first .0 }; used = r .used; total = r .total; reqs = raise (r .reqs); fails = raise (r .fails) }
+pageBack c r = totalTo (chunkBack r) (r .total - counted c)
 
 unfoldable pub countUsed : ℕ → List ℕ → ℕ → List ℕ
 countUsed w s c = withClass w s c (chunkUsed (classAt w s c))

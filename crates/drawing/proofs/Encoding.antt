@@ -18,7 +18,6 @@ use Rattle.records.specs.Class.{classAt}
 use Rattle.records.specs.Page.{linksAt}
 use Rattle.records.proofs.Laws.{unpacked-class-fits}
 use Rattle.model.specs.Classes.{chunks}
-use Rattle.model.specs.State.{most}
 use Rattle.maps.specs.Bitmap.{mark, bitsOf}
 use Rattle.maps.proofs.Bits.{bits-ext, bits-small, bits-join, bits-injective, byte-is}
 use Rattle.maps.proofs.Marks.{mark-at}
@@ -81,12 +80,11 @@ module _ (w : ℕ) (s : List ℕ) where
             ap (mark s (8 * mapPlace w p)) (sym x) ∙ clear (i - chunks c) (omega arith) ∙ sym (mark-past p c i u)
 
     pub fields-bounds : Bounds (fieldsOf w s) (pagesIn w s)
-    unfolding fieldsOf imageOf classAt most
+    unfolding fieldsOf imageOf classAt
     fields-bounds = record {
       marks = λ p h k i l. mark-past p (linksAt w s p .class) i l;
       maps = λ p h k a b z. map-marks p (linksAt w s p .class) h a z;
-      reqs = λ c h. omega (arith, unpacked-class-fits (word s (countsPlace w c)) (word s (tallyPlace w c)) .reqs);
-      fails = λ c h. omega (arith, unpacked-class-fits (word s (countsPlace w c)) (word s (tallyPlace w c)) .fails);
+      class = λ c h. unpacked-class-fits (word s (countsPlace w c)) (word s (tallyPlace w c));
     }
 
     -- ---- maps in pages

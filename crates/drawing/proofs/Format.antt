@@ -25,7 +25,7 @@ use Rattle.image.specs.Image.{paint, Same}
 use Rattle.image.proofs.Paint.{paint-ext}
 use Rattle.format.specs.Format.{shortest, tooLong, insideFree, firstFree, freshImage, formatted}
 use Rattle.rules.specs.Rules.{freeIn}
-use Rattle.rules.specs.Drawn.{backLink, freeLinks, stateImage}
+use Rattle.rules.specs.Drawn.{backLink, freeLinks, classRecord, stateImage}
 use Rattle.rules.specs.Bytes.{pagesIn}
 use Rattle.drawing.specs.Draw.{mapHas, draw}
 use Rattle.drawing.proofs.Mapped.{mapped-is}
@@ -79,13 +79,7 @@ module _ (P : ℕ) where
     image-fresh = record {
       free-pages = unfold fresh freeIn in sym (count-all _ P (λ p h. rw (lt-ltb p P h)));
       first-run = unfold fresh in refl;
-      class = λ c h i. unfold fresh in record {
-        first = record { 0 = noPage };
-        used = sym (none-used c) i;
-        total = sym (none-total c) i;
-        reqs = 0;
-        fails = 0;
-      };
+      class = λ c h i. unfold fresh in classRecord noPage (sym (none-used c) i) (sym (none-total c) i) (fresh P .tally c);
       map = λ p h. rw (page-in p h);
       links = λ p h. rw (page-in p h) (unfold fresh in free-links p);
     }

@@ -6,10 +6,9 @@ use lib.ListN.{length}
 use Rattle.base.specs.Tests.{pick}
 use Rattle.records.specs.Layout.{noPage, pageCount}
 use Rattle.model.specs.Classes.{maxPages}
-use Rattle.records.specs.declared.ClassRecord.{ClassRecord}
 use Rattle.records.specs.declared.Links.{Links}
 use Rattle.records.specs.Header.{withHeader}
-use Rattle.records.specs.Class.{packCounts, packTally}
+use Rattle.records.specs.Class.{emptyClass, packCounts, packTally}
 use Rattle.records.specs.Page.{packLinks, withLinks}
 use Rattle.image.specs.Image.{Image, headerOf, writeAt, paint, setLinks}
 use Rattle.answers.specs.Outcome.{Outcome, granted, refused}
@@ -29,10 +28,6 @@ formatOutcome w len =
     pick (ltb len (shortest w)) (refused TooShort) (pick (leb (tooLong w) len) (refused TooLong) (granted (pageCount w len)))
 
 -- ---- the slice
-
--- no first page, all counts 0
-abbrev pub emptyClass : ClassRecord
-emptyClass = record { first = record { 0 = noPage }; used = 0; total = 0; reqs = 0; fails = 0 }
 
 -- a page inside a free run, where prev is the run's first page in the run's last page and else no page
 abbrev pub insideFree : ℕ → Links

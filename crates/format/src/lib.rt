@@ -2,7 +2,6 @@
 use answers::Formatted;
 use answers::Refusal;
 use records::CLASS_WORD;
-use records::ClassRecord;
 use records::FIRST_FREE;
 use records::HEADER;
 use records::Header;
@@ -17,7 +16,7 @@ ghost use Prim.Native.Nat.{_≤_, _<_};
 ghost use lib.ListN.{length};
 ghost use Rattle.answers.specs.Outcome.{ofFormat};
 ghost use Rattle.image.specs.Image.{headerOf};
-ghost use Rattle.format.specs.Format.{formatOutcome, emptyClass, insideFree, firstFree, formatted, filled, classesCleared, pagesCleared, runLinked, written};
+ghost use Rattle.format.specs.Format.{formatOutcome, insideFree, firstFree, formatted, filled, classesCleared, pagesCleared, runLinked, written};
 
 // The header of a pool of one free run.
 fn fresh_header(w: u8, pages: u16) -> Header
@@ -31,18 +30,6 @@ fn fresh_header(w: u8, pages: u16) -> Header
         pages: pages,
         free_pages: pages,
         first_run: PageNumber(0),
-    }
-}
-
-fn empty_class() -> ClassRecord
-    ensures { λ r. ⌜ r ≡ emptyClass ⌝ }
-{
-    ClassRecord {
-        first: PageNumber(NO_PAGE),
-        used: 0,
-        total: 0,
-        reqs: 0,
-        fails: 0,
     }
 }
 
@@ -84,8 +71,20 @@ fn fill(pool: &mut [u8], from: u16, step: u8, n: u16, v: u64)
 fn clear_classes(pool: &mut [u8], w: u8)
     ensures { λ _. ⌜ now (pool .exit) ≡ classesCleared w (now (pool .entry)) ⌝ }
 {
-    fill(pool, 1, w, 9, record_class::pack_counts(empty_class()));
-    fill(pool, 2, w, 9, record_class::pack_tally(empty_class()));
+    fill(
+        pool,
+        1,
+        w,
+        9,
+        record_class::pack_counts(records::empty_class()),
+    );
+    fill(
+        pool,
+        2,
+        w,
+        9,
+        record_class::pack_tally(records::empty_class()),
+    );
 }
 
 fn clear_pages(pool: &mut [u8], w: u8, pages: u16)

@@ -4,7 +4,9 @@ use native.Mathlib.Omega.{arith}
 use Rattle.base.proofs.Functions.{upd-keeps}
 use Rattle.records.specs.declared.ClassRecord.{ClassRecord}
 use Rattle.records.specs.declared.Links.{Links}
-use Rattle.records.proofs.Laws.{HeaderFits, ClassFits, LinksFit}
+use Rattle.records.specs.Header.{HeaderFits}
+use Rattle.records.specs.Class.{ClassFits}
+use Rattle.records.specs.Page.{LinksFit}
 use Rattle.image.specs.Image.{Image, headerOf, setLinks}
 use Rattle.image.specs.Update.{setFree, setFirstRun, setClass}
 

@@ -1,37 +1,10 @@
 // The first pages of the ten lists: list 0 is the list of free runs, list 1 + c the list of class c's pages with a free chunk.
 // A list's first page stands in the header or in the class record.
-use records::ClassRecord;
-use records::Header;
 use records::PageNumber;
 ghost use mathlib.Core.Path.{_≡_};
 ghost use Rattle.records.specs.Header.{headerAt};
 ghost use Rattle.records.specs.Class.{classAt};
-ghost use Rattle.lists.specs.Links.{firstRunTo, firstTo, firstOf, withFirstRun, withFirstPage, withFirst};
-
-fn first_run_to(h: Header, p: PageNumber) -> Header
-    ensures { λ r. ⌜ r ≡ firstRunTo h (p .0) ⌝ }
-{
-    Header {
-        edition: h.edition,
-        min_shift: h.min_shift,
-        page_shift: h.page_shift,
-        pages: h.pages,
-        free_pages: h.free_pages,
-        first_run: PageNumber(p.0),
-    }
-}
-
-fn first_to(r: ClassRecord, p: PageNumber) -> ClassRecord
-    ensures { λ x. ⌜ x ≡ firstTo r (p .0) ⌝ }
-{
-    ClassRecord {
-        first: PageNumber(p.0),
-        used: r.used,
-        total: r.total,
-        reqs: r.reqs,
-        fails: r.fails,
-    }
-}
+ghost use Rattle.lists.specs.Links.{firstOf, withFirstRun, withFirstPage, withFirst};
 
 fn first_run(pool: &[u8]) -> PageNumber
     ensures { λ r. ⌜ r .0 ≡ headerAt (now (pool .entry)) .«first_run» .0 ⌝ }
@@ -62,14 +35,14 @@ fn put_first_run(pool: &mut [u8], p: PageNumber)
     ensures { λ _. ⌜ now (pool .exit) ≡ withFirstRun (now (pool .entry)) (p .0) ⌝ }
 {
     let h = record_header::get_header(pool);
-    record_header::put_header(pool, first_run_to(h, p));
+    record_header::put_header(pool, records::first_run_to(h, p));
 }
 
 fn put_first_page(pool: &mut [u8], w: u8, c: u8, p: PageNumber)
     ensures { λ _. ⌜ now (pool .exit) ≡ withFirstPage w (now (pool .entry)) c (p .0) ⌝ }
 {
     let r = record_class::get_class(pool, w, c);
-    record_class::put_class(pool, w, c, first_to(r, p));
+    record_class::put_class(pool, w, c, records::first_to(r, p));
 }
 
 pub fn put_first(pool: &mut [u8], w: u8, list: u8, p: PageNumber)

@@ -13,11 +13,13 @@ use Rattle.records.specs.Layout.{noPage}
 use Rattle.records.specs.declared.Header.{Header}
 use Rattle.records.specs.declared.ClassRecord.{ClassRecord}
 use Rattle.records.specs.declared.Links.{Links}
-use Rattle.records.proofs.Laws.{ClassFits, LinksFit}
+use Rattle.records.specs.Class.{firstTo}
+use Rattle.records.specs.Page.{LinksFit}
+use Rattle.records.proofs.Laws.{first-fits}
 use Rattle.image.specs.Image.{Image, paint, setLinks}
 use Rattle.image.proofs.Paint.{paint-ext, links-paint, class-paint, header-paint, links-shown, class-shown, header-shown}
 use Rattle.image.proofs.Fits.{Fits, header-fits, fits-first-run, fits-class, fits-links}
-use Rattle.lists.specs.Links.{firstTo, between, nextTo, prevTo, firstOf, withFirstRun, withFirstPage, withFirst, linkedNext, linkedPrev, withNext, withPrev, unlinked, pushedBefore, pushed, replaced}
+use Rattle.lists.specs.Links.{between, nextTo, prevTo, firstOf, withFirstRun, withFirstPage, withFirst, linkedNext, linkedPrev, withNext, withPrev, unlinked, pushedBefore, pushed, replaced}
 use Rattle.lists.specs.Nodes.{firstIn, putFirst, putNext, putPrev, unlink, push, put}
 
 -- a page of P, or none
@@ -26,9 +28,6 @@ Maybe P p = (p ≡ noPage) ⊎ (p < P)
 
 between-fits : (l : Links) (a b : ℕ) → LinksFit l → a < 65536 → b < 65536 → LinksFit (between l a b)
 between-fits l a b F h k = record { kind = F .kind; class = F .class; run = F .run; next = k; prev = h }
-
-first-fits : (r : ClassRecord) (p : ℕ) → ClassFits r → p < 65536 → ClassFits (firstTo r p)
-first-fits r p F h = record { first = h; used = F .used; total = F .total; reqs = F .reqs; fails = F .fails }
 
 pub small : (P : ℕ) {p : ℕ} → P ≤ noPage → Maybe P p → p < 65536
 small P top (inl e) = omega arith

@@ -4,28 +4,12 @@ use mathlib.Core.List.{List}
 use lib.Dec.{eqb}
 use Rattle.base.specs.Tests.{pick}
 use Rattle.records.specs.Layout.{noPage}
-use Rattle.records.specs.declared.Header.{Header}
-use Rattle.records.specs.declared.ClassRecord.{ClassRecord}
 use Rattle.records.specs.declared.Links.{Links}
-use Rattle.records.specs.Header.{headerAt, withHeader}
-use Rattle.records.specs.Class.{classAt, withClass}
+use Rattle.records.specs.Header.{firstRunTo, headerAt, withHeader}
+use Rattle.records.specs.Class.{firstTo, classAt, withClass}
 use Rattle.records.specs.Page.{linksAt, withLinks}
 
--- ---- a record with one field changed
-
-abbrev pub firstRunTo : Header → ℕ → Header
-firstRunTo h p =
-    record {
-      edition = h .edition;
-      «min_shift» = h .«min_shift»;
-      «page_shift» = h .«page_shift»;
-      pages = h .pages;
-      «free_pages» = h .«free_pages»;
-      «first_run» = record { 0 = p };
-    }
-
-abbrev pub firstTo : ClassRecord → ℕ → ClassRecord
-firstTo r p = record { first = record { 0 = p }; used = r .used; total = r .total; reqs = r .reqs; fails = r .fails }
+-- ---- links by value
 
 -- the kind, class and run of l, between two pages
 abbrev pub between : Links → ℕ → ℕ → Links

@@ -6,9 +6,10 @@ use Rattle.base.specs.Tests.{pick}
 use Rattle.base.specs.Links.{Linked}
 use Rattle.records.specs.Layout.{noPage}
 use Rattle.records.specs.declared.Links.{Links}
+use Rattle.records.specs.Class.{firstTo}
 use Rattle.image.specs.Image.{Image, setLinks}
 use Rattle.image.specs.Update.{setFirstRun, setClass}
-use Rattle.lists.specs.Links.{firstTo, between, nextTo, prevTo}
+use Rattle.lists.specs.Links.{between, nextTo, prevTo}
 
 abbrev pub head : ℕ → ℕ
 head list = noPage + list

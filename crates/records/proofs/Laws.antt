@@ -7,32 +7,13 @@ use lib.Dec.{lit<}
 use Rattle.records.specs.declared.Header.{Header}
 use Rattle.records.specs.declared.ClassRecord.{ClassRecord}
 use Rattle.records.specs.declared.Links.{Links}
-use Rattle.records.specs.Header.{packHeader, unpackHeader}
-use Rattle.records.specs.Class.{packCounts, packTally, unpackClass}
-use Rattle.records.specs.Page.{packLinks, unpackLinks}
+use Rattle.records.specs.Header.{HeaderFits, packHeader, unpackHeader}
+use Rattle.records.specs.Class.{firstTo, ClassFits, packCounts, packTally, unpackClass}
+use Rattle.records.specs.Page.{LinksFit, packLinks, unpackLinks}
 
--- each field is a number of its width
-pub record HeaderFits (h : Header) : Type 0 where
-  pub edition : h .edition < 256
-  pub min-shift : h .«min_shift» < 16
-  pub page-shift : h .«page_shift» < 16
-  pub pages : h .pages < 65536
-  pub free-pages : h .«free_pages» < 65536
-  pub first-run : h .«first_run» .0 < 65536
-
-pub record ClassFits (r : ClassRecord) : Type 0 where
-  pub first : r .first .0 < 65536
-  pub used : r .used < 16777216
-  pub total : r .total < 16777216
-  pub reqs : r .reqs < 4294967296
-  pub fails : r .fails < 4294967296
-
-pub record LinksFit (l : Links) : Type 0 where
-  pub kind : l .kind < 8
-  pub class : l .class < 16
-  pub run : l .run < 65536
-  pub next : l .next .0 < 65536
-  pub prev : l .prev .0 < 65536
+-- another first page
+pub first-fits : (r : ClassRecord) (p : ℕ) → ClassFits r → p < 65536 → ClassFits (firstTo r p)
+first-fits r p F h = record { first = h; used = F .used; total = F .total; reqs = F .reqs; fails = F .fails }
 
 -- a number over m is its part over m n and the digit between, so the digits of a word are put together one at a time
 digit : (v m n : ℕ) → v / (m * n) * n + v / m % n ≡ v / m

@@ -1,9 +1,41 @@
 -- A class record in two words.
-use Prim.Native.Nat.{ℕ, _+_, _*_, _/_, _%_}
+use Prim.Native.Nat.{ℕ, _+_, _*_, _/_, _%_, _<_}
 use mathlib.Core.List.{List}
 use Rattle.words.specs.Word.{word, setWord}
-use Rattle.records.specs.Layout.{countsPlace, tallyPlace}
+use Rattle.records.specs.Layout.{noPage, countsPlace, tallyPlace}
 use Rattle.records.specs.declared.ClassRecord.{ClassRecord}
+
+-- ---- by value
+
+-- no first page, all counts 0
+abbrev pub emptyClass : ClassRecord
+emptyClass = record { first = record { 0 = noPage }; used = 0; total = 0; reqs = 0; fails = 0 }
+
+-- one field changed
+abbrev pub firstTo : ClassRecord → ℕ → ClassRecord
+firstTo r p = record { first = record { 0 = p }; used = r .used; total = r .total; reqs = r .reqs; fails = r .fails }
+
+abbrev pub usedTo : ClassRecord → ℕ → ClassRecord
+usedTo r n = record { first = r .first; used = n; total = r .total; reqs = r .reqs; fails = r .fails }
+
+abbrev pub totalTo : ClassRecord → ℕ → ClassRecord
+totalTo r n = record { first = r .first; used = r .used; total = n; reqs = r .reqs; fails = r .fails }
+
+abbrev pub reqsTo : ClassRecord → ℕ → ClassRecord
+reqsTo r n = record { first = r .first; used = r .used; total = r .total; reqs = n; fails = r .fails }
+
+abbrev pub failsTo : ClassRecord → ℕ → ClassRecord
+failsTo r n = record { first = r .first; used = r .used; total = r .total; reqs = r .reqs; fails = n }
+
+-- ---- in its words
+
+-- each field is a number of its width
+pub record ClassFits (r : ClassRecord) : Type 0 where
+  pub first : r .first .0 < 65536
+  pub used : r .used < 16777216
+  pub total : r .total < 16777216
+  pub reqs : r .reqs < 4294967296
+  pub fails : r .fails < 4294967296
 
 -- first page 16 bits, used 24, total 24
 unfoldable pub packCounts : ClassRecord → ℕ

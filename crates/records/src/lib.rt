@@ -1,6 +1,8 @@
 // The records of a pool by value: header, class records and page records, and where they stand.
 ghost use mathlib.Core.Path.{_≡_};
 ghost use Prim.Native.Nat.{_+_, _*_};
+ghost use Rattle.records.specs.Header.{freeTo, firstRunTo};
+ghost use Rattle.records.specs.Class.{emptyClass, firstTo, usedTo, totalTo, reqsTo, failsTo};
 
 // Where no page is meant: after a list's last page, before its first, and in a link without use.
 pub const NO_PAGE: u16 = 65535;
@@ -73,4 +75,106 @@ pub fn place(from: u16, step: u8, i: u16) -> usize
     ensures { λ r. ⌜ r ≡ from + step * i ⌝ }
 {
     from as usize + step as usize * i as usize
+}
+
+// ---- a header with one field changed
+
+pub fn free_to(h: Header, n: u16) -> Header
+    ensures { λ r. ⌜ r ≡ freeTo h n ⌝ }
+{
+    Header {
+        edition: h.edition,
+        min_shift: h.min_shift,
+        page_shift: h.page_shift,
+        pages: h.pages,
+        free_pages: n,
+        first_run: PageNumber(h.first_run.0),
+    }
+}
+
+pub fn first_run_to(h: Header, p: PageNumber) -> Header
+    ensures { λ r. ⌜ r ≡ firstRunTo h (p .0) ⌝ }
+{
+    Header {
+        edition: h.edition,
+        min_shift: h.min_shift,
+        page_shift: h.page_shift,
+        pages: h.pages,
+        free_pages: h.free_pages,
+        first_run: PageNumber(p.0),
+    }
+}
+
+// ---- a class record without pages, and with one field changed
+
+pub fn empty_class() -> ClassRecord
+    ensures { λ r. ⌜ r ≡ emptyClass ⌝ }
+{
+    ClassRecord {
+        first: PageNumber(NO_PAGE),
+        used: 0,
+        total: 0,
+        reqs: 0,
+        fails: 0,
+    }
+}
+
+pub fn first_to(r: ClassRecord, p: PageNumber) -> ClassRecord
+    ensures { λ x. ⌜ x ≡ firstTo r (p .0) ⌝ }
+{
+    ClassRecord {
+        first: PageNumber(p.0),
+        used: r.used,
+        total: r.total,
+        reqs: r.reqs,
+        fails: r.fails,
+    }
+}
+
+pub fn used_to(r: ClassRecord, n: u32) -> ClassRecord
+    ensures { λ x. ⌜ x ≡ usedTo r n ⌝ }
+{
+    ClassRecord {
+        first: PageNumber(r.first.0),
+        used: n,
+        total: r.total,
+        reqs: r.reqs,
+        fails: r.fails,
+    }
+}
+
+pub fn total_to(r: ClassRecord, n: u32) -> ClassRecord
+    ensures { λ x. ⌜ x ≡ totalTo r n ⌝ }
+{
+    ClassRecord {
+        first: PageNumber(r.first.0),
+        used: r.used,
+        total: n,
+        reqs: r.reqs,
+        fails: r.fails,
+    }
+}
+
+pub fn reqs_to(r: ClassRecord, n: u32) -> ClassRecord
+    ensures { λ x. ⌜ x ≡ reqsTo r n ⌝ }
+{
+    ClassRecord {
+        first: PageNumber(r.first.0),
+        used: r.used,
+        total: r.total,
+        reqs: n,
+        fails: r.fails,
+    }
+}
+
+pub fn fails_to(r: ClassRecord, n: u32) -> ClassRecord
+    ensures { λ x. ⌜ x ≡ failsTo r n ⌝ }
+{
+    ClassRecord {
+        first: PageNumber(r.first.0),
+        used: r.used,
+        total: r.total,
+        reqs: r.reqs,
+        fails: n,
+    }
 }

@@ -15,15 +15,15 @@ use Rattle.base.proofs.Cases.{eq?, lt?, bool?, clash}
 use Rattle.base.proofs.AllBelow.{pick-yes, pick-no}
 use Rattle.records.specs.Layout.{noPage}
 use Rattle.records.specs.declared.Links.{Links}
-use Rattle.model.specs.State.{Page, Run, Tally, marksOf}
+use Rattle.model.specs.State.{Page, Run, marksOf}
 use Rattle.model.specs.Runs.{startsAt, endsAt}
 use Rattle.model.specs.View.{usedOf, shown}
 use Rattle.maps.specs.Bitmap.{bitsOf}
 use Rattle.rules.specs.Fields.{Fields, kind, class, run, next, prev, map, first, pageAt}
-use Rattle.rules.specs.Read.{openAt, headsOf, listOf, withLengths, tallyOf, readFields}
+use Rattle.rules.specs.Read.{openAt, headsOf, listOf, withLengths, tallyIn, tallyOf, readFields}
 use Rattle.rules.specs.Plain.{ClassPage, Rule2, Lists, Head, Open}
 use Rattle.rules.specs.Agree.{Agree, Holds, Bounds}
-use Rattle.rules.specs.Drawn.{starts, links, onList, backLink, freeLinks, pageLinks, mapOf, stateImage, stateFields}
+use Rattle.rules.specs.Drawn.{starts, links, onList, backLink, freeLinks, pageLinks, mapOf, classRecord, stateImage, stateFields}
 use Rattle.rules.proofs.Linked.{next-off, prev-off}
 use Rattle.rules.proofs.Pages.{page-kind, open-says, says-open}
 use Rattle.rules.proofs.Rule2.{rule2-says, free-run}
@@ -168,13 +168,7 @@ module _ {v : Fields} {n : ℕ} (few : n ≤ noPage) (H : Holds v n) (B : Bounds
 
   class-record : (c : ℕ) → c < 9 → v .image .class c ≡ stateImage (readFields v n) .class c
   unfolding stateImage readFields listOf tallyOf
-  class-record c h = λ i. record {
-    first = record { 0 = head i };
-    used = counts .0 i;
-    total = counts .1 i;
-    reqs = ap (λ (t : Tally). t .reqs) tally i;
-    fails = ap (λ (t : Tally). t .fails) tally i;
-  }
+  class-record c h = λ i. classRecord (head i) (counts .0 i) (counts .1 i) (tally i)
     where
       head : first v c ≡ headOr noPage (listOf v n c)
       head = K c h .entry
@@ -182,7 +176,7 @@ module _ {v : Fields} {n : ℕ} (few : n ≤ noPage) (H : Holds v n) (B : Bounds
       counts : (v .image .class c .used ≡ usedOf (readFields v n) c) × (v .image .class c .total ≡ shown (readFields v n) .total c)
       counts = rule6-says v n (H .six) .1 c h
 
-      tally : _≡_ {A = Tally} (record { reqs = v .image .class c .reqs; fails = v .image .class c .fails }) (tallyOf v c)
+      tally : tallyIn (v .image .class c) ≡ tallyOf v c
       tally = sym (pick-yes _ _ _ (lt-ltb c 9 h))
 
   image-drawn : Same n (v .image) (stateImage (readFields v n))

@@ -160,7 +160,7 @@ module _ (v : Fields) (n : ℕ) (few : n ≤ noPage) (B : Bounds v n) (R : Rule2
     where
       go : (c < 9) ⊎ (9 ≤ c) → TallyOk c (tallyOf v c)
       go (inl h) =
-          rw (pick-yes _ _ _ (lt-ltb c 9 h)) (record { reqs-fit = B .reqs c h; fails-fit = B .fails c h; none-past = λ l. absurd (omega arith) })
+          rw (pick-yes _ _ _ (lt-ltb c 9 h)) (record { reqs-fit = omega (arith, B .class c h .reqs); fails-fit = omega (arith, B .class c h .fails); none-past = λ l. absurd (omega arith) })
       go (inr h) = rw (pick-no _ _ _ (le-ltb c 9 h)) (record { reqs-fit = omega arith; fails-fit = omega arith; none-past = λ l. refl })
 
 pub fields-well : {v : Fields} {n : ℕ} → 1 ≤ n → n ≤ noPage → Holds v n → Bounds v n → WellFormed (readFields v n)

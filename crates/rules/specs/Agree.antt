@@ -2,9 +2,9 @@
 use mathlib.Core.Path.{_≡_}
 use mathlib.Core.Bool.{true, false}
 use Prim.Native.Nat.{ℕ, _-_, _%_, _^_, _≤_, _<_}
+use Rattle.records.specs.Class.{ClassFits}
 use Rattle.image.specs.Image.{Same}
 use Rattle.model.specs.Classes.{chunks}
-use Rattle.model.specs.State.{most}
 use Rattle.maps.specs.Bitmap.{bitsOf}
 use Rattle.rules.specs.Fields.{Fields, kind, class, map}
 use Rattle.rules.specs.Rules.{rule2, rule3, rule4, rule5, rule6}
@@ -23,10 +23,9 @@ pub record Holds (v : Fields) (n : ℕ) : Type 0 where
   pub six : rule6 v n ≡ true
 
 -- what the encoding gives: no marks past the chunks; the map field of a class that keeps its map there, its unused low bits 0, is that of
--- the marks; tallies of 32 bits
+-- the marks; class records of fields that have their widths
 pub record Bounds (v : Fields) (n : ℕ) : Type 0 where
   pub marks : (p : ℕ) → p < n → kind v p ≡ 2 → (i : ℕ) → chunks (class v p) ≤ i → v .mark p i ≡ false
   pub maps : (p : ℕ) → p < n → kind v p ≡ 2 → 3 ≤ class v p → class v p ≤ 8 → map v p % 2 ^ (64 - chunks (class v p)) ≡ 0 →
       map v p ≡ bitsOf (v .mark p) 64
-  pub reqs : (c : ℕ) → c < 9 → v .image .class c .reqs ≤ most
-  pub fails : (c : ℕ) → c < 9 → v .image .class c .fails ≤ most
+  pub class : (c : ℕ) → c < 9 → ClassFits (v .image .class c)

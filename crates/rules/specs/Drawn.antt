@@ -5,8 +5,9 @@ use lib.Dec.{eqb, ltb}
 use Rattle.base.specs.Tests.{pick}
 use Rattle.base.specs.Links.{headOr, nextIn, prevFrom}
 use Rattle.records.specs.Layout.{noPage}
+use Rattle.records.specs.declared.ClassRecord.{ClassRecord}
 use Rattle.records.specs.declared.Links.{Links}
-use Rattle.model.specs.State.{Page, idle, slab, taken, inside, edge, State, Run, marksOf}
+use Rattle.model.specs.State.{Page, idle, slab, taken, inside, edge, State, Run, Tally, marksOf}
 use Rattle.model.specs.Runs.{startsAt, endsAt}
 use Rattle.model.specs.View.{usedOf, shown}
 use Rattle.maps.specs.Bitmap.{bitsOf}
@@ -50,17 +51,16 @@ mapOf (taken n) = 0
 mapOf inside = 0
 mapOf edge = 0
 
+-- of a class: its first page, its counts and its tallies
+abbrev pub classRecord : ℕ → ℕ → ℕ → Tally → ClassRecord
+classRecord first used total tally =
+    record { first = record { 0 = first }; used = used; total = total; reqs = tally .reqs; fails = tally .fails }
+
 unfoldable pub stateImage : State → Image
 stateImage s = record {
   freePages = freeIn (s .page) (s .size);
   firstRun = headOr noPage (starts (s .runs));
-  class = λ c. record {
-    first = record { 0 = headOr noPage (s .lists c) };
-    used = usedOf s c;
-    total = shown s .total c;
-    reqs = s .tally c .reqs;
-    fails = s .tally c .fails;
-  };
+  class = λ c. classRecord (headOr noPage (s .lists c)) (usedOf s c) (shown s .total c) (s .tally c);
   map = λ p. mapOf (s .page p);
   links = λ p. pageLinks (s .runs) (s .lists) p (s .page p);
 }

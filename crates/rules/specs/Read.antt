@@ -5,6 +5,7 @@ use mathlib.Core.List.{List, [], _∷_}
 use lib.Dec.{eqb, ltb}
 use Rattle.base.specs.Tests.{pick}
 use Rattle.base.specs.Count.{count}
+use Rattle.records.specs.declared.ClassRecord.{ClassRecord}
 use Rattle.model.specs.State.{State, Run, Tally, isOpen}
 use Rattle.rules.specs.Fields.{Fields, kind, run, next, first, pageAt}
 
@@ -32,10 +33,12 @@ abbrev pub withLengths : (ℕ → ℕ) → List ℕ → List Run
 withLengths len [] = []
 withLengths len (p ∷ ps) = record { start = p; len = len p } ∷ withLengths len ps
 
+abbrev pub tallyIn : ClassRecord → Tally
+tallyIn r = record { reqs = r .reqs; fails = r .fails }
+
 -- there are no tallies past class 8
 unfoldable pub tallyOf : Fields → ℕ → Tally
-tallyOf v c =
-    pick (ltb c 9) (record { reqs = v .image .class c .reqs; fails = v .image .class c .fails }) (record { reqs = 0; fails = 0 })
+tallyOf v c = pick (ltb c 9) (tallyIn (v .image .class c)) (record { reqs = 0; fails = 0 })
 
 unfoldable pub readFields : Fields → ℕ → State
 readFields v n = record {

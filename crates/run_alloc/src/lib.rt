@@ -14,7 +14,7 @@ fn take_free(pool: &mut [u8], k: u16)
     let h = record_header::get_header(pool);
     record_header::put_header(
         pool,
-        run_extents::free_to(h, run_extents::less(h.free_pages, k)),
+        records::free_to(h, run_extents::less(h.free_pages, k)),
     );
 }
 

@@ -5,9 +5,8 @@ use mathlib.Core.List.{List}
 use lib.Dec.{eqb, leb, ltb}
 use Rattle.base.specs.Tests.{pick}
 use Rattle.records.specs.Layout.{noPage}
-use Rattle.records.specs.declared.Header.{Header}
 use Rattle.records.specs.declared.Links.{Links}
-use Rattle.records.specs.Header.{headerAt, withHeader}
+use Rattle.records.specs.Header.{freeTo, headerAt, withHeader}
 use Rattle.records.specs.Page.{linksAt, withLinks}
 use Rattle.lists.specs.Links.{unlinked, replaced}
 use Rattle.rules.specs.Drawn.{links}
@@ -16,17 +15,6 @@ abbrev pub wrap : ℕ → ℕ
 wrap n = n % 65536
 
 -- ---- records
-
-abbrev pub freeTo : Header → ℕ → Header
-freeTo h n =
-    record {
-      edition = h .edition;
-      «min_shift» = h .«min_shift»;
-      «page_shift» = h .«page_shift»;
-      pages = h .pages;
-      «free_pages» = n;
-      «first_run» = record { 0 = h .«first_run» .0 };
-    }
 
 unfoldable pub fewerFree : List ℕ → ℕ → List ℕ
 fewerFree s k = withHeader s (freeTo (headerAt s) (headerAt s .«free_pages» - k))

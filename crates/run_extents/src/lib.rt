@@ -1,12 +1,11 @@
 // The free runs of a pool: first fit, and what records of runs are made of.
 // Sums of page numbers and counts wrap, so that nothing is required; within a pool none does.
-use records::Header;
 use records::Links;
 use records::NO_PAGE;
 use records::PageNumber;
 ghost use mathlib.Core.Path.{_≡_};
 ghost use Prim.Native.Nat.{_+_, _-_};
-ghost use Rattle.run_extents.specs.Extents.{wrap, freeTo, plain, fitIn};
+ghost use Rattle.run_extents.specs.Extents.{wrap, plain, fitIn};
 
 pub fn add(a: u16, b: u16) -> u16
     ensures { λ r. ⌜ r ≡ wrap (a + b) ⌝ }
@@ -37,19 +36,6 @@ pub fn plain_links(kind: u8, run: u16, prev: PageNumber) -> Links
         run: run,
         next: PageNumber(NO_PAGE),
         prev: PageNumber(prev.0),
-    }
-}
-
-pub fn free_to(h: Header, n: u16) -> Header
-    ensures { λ r. ⌜ r ≡ freeTo h n ⌝ }
-{
-    Header {
-        edition: h.edition,
-        min_shift: h.min_shift,
-        page_shift: h.page_shift,
-        pages: h.pages,
-        free_pages: n,
-        first_run: PageNumber(h.first_run.0),
     }
 }
 

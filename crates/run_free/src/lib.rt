@@ -24,10 +24,7 @@ fn give_free(pool: &mut [u8], k: u16)
     ensures { λ _. ⌜ now (pool .exit) ≡ moreFree (now (pool .entry)) k ⌝ }
 {
     let h = record_header::get_header(pool);
-    record_header::put_header(
-        pool,
-        run_extents::free_to(h, run_extents::add(h.free_pages, k)),
-    );
+    record_header::put_header(pool, records::free_to(h, run_extents::add(h.free_pages, k)));
 }
 
 fn unlink_run(pool: &mut [u8], w: u8, q: PageNumber)

@@ -12,7 +12,7 @@ use Rattle.base.proofs.Cases.{eq?, lt?, Out, in?}
 use Rattle.base.proofs.Functions.{upd-same, upd-other, fill-in, fill-out}
 use Rattle.records.specs.Layout.{noPage}
 use Rattle.records.specs.declared.Links.{Links}
-use Rattle.records.proofs.Laws.{LinksFit}
+use Rattle.records.specs.Page.{LinksFit}
 use Rattle.image.specs.Image.{Image, paint, setLinks}
 use Rattle.image.specs.Update.{setFree}
 use Rattle.image.proofs.Paint.{paint-ext, links-paint, header-paint, links-shown, header-shown}

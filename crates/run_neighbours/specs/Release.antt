@@ -5,10 +5,10 @@ use lib.Dec.{eqb, ltb}
 use Rattle.base.specs.Tests.{pick}
 use Rattle.records.specs.Layout.{noPage}
 use Rattle.records.specs.declared.Links.{Links}
-use Rattle.records.specs.Header.{headerAt, withHeader}
+use Rattle.records.specs.Header.{freeTo, headerAt, withHeader}
 use Rattle.records.specs.Page.{linksAt}
 use Rattle.lists.specs.Links.{unlinked, pushed}
-use Rattle.run_extents.specs.Extents.{wrap, freeTo, plain, filled, backed}
+use Rattle.run_extents.specs.Extents.{wrap, plain, filled, backed}
 
 unfoldable pub moreFree : List ℕ → ℕ → List ℕ
 moreFree s k = withHeader s (freeTo (headerAt s) (wrap (headerAt s .«free_pages» + k)))

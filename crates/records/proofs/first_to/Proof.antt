@@ -1,6 +1,6 @@
 use mathlib.Core.Path.{refl}
-use Rattle.list_heads.proofs.first_to.Statement.{statement}
-use Rattle.list_heads.proofs.first_to.Tie as tie
+use Rattle.records.proofs.first_to.Statement.{statement}
+use Rattle.records.proofs.first_to.Tie as tie
 
 returns : tie.Need-returns
 returns c = refl
