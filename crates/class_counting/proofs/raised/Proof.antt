@@ -1,7 +1,7 @@
 use Rattle.classes.proofs.Numbers.{raise-more, raise-stops}
 use borrow.Author.Needs.{needs}
-use Rattle.class_counts.proofs.raised.Statement.{statement}
-use Rattle.class_counts.proofs.raised.Tie as tie
+use Rattle.class_counting.proofs.raised.Statement.{statement}
+use Rattle.class_counting.proofs.raised.Tie as tie
 
 add-result : tie.Need-add-result
 add-result c = search needs
