@@ -5,7 +5,7 @@ use mathlib.Core.Bool.{Bool, true, false, not}
 use mathlib.Core.List.{List}
 use Prim.Native.Nat.{ℕ, suc, _+_, _-_, _*_, _≤_, _<_}
 use native.Mathlib.Omega.{arith}
-use lib.ListN.{length, getD}
+use lib.ListN.{getD}
 use borrow.Author.Tests.{eq-eqb, ne-eqb}
 use Rattle.base.specs.Tests.{pick}
 use Rattle.base.specs.Functions.{upd, fill}
@@ -14,7 +14,6 @@ use Rattle.base.specs.Links.{others}
 use Rattle.base.proofs.Cases.{clash, never, eq?, lt?, bool?, Out}
 use Rattle.base.proofs.Count.{count-bound}
 use Rattle.base.proofs.Functions.{upd-same, upd-other, fill-in, fill-out}
-use Rattle.words.specs.Word.{Bytes}
 use Rattle.records.specs.Layout.{pagesFrom}
 use Rattle.records.specs.declared.ClassRecord.{ClassRecord}
 use Rattle.records.specs.Class.{firstTo}
@@ -23,9 +22,9 @@ use Rattle.model.specs.State.{Page, idle, slab, State, isIdle}
 use Rattle.model.specs.Runs.{joinRuns, startsAt, endsAt}
 use Rattle.model.specs.View.{usedOn, usedOf, shown}
 use Rattle.model.specs.Calls.{relisted, release, dropPage}
-use Rattle.model.specs.WellFormed.{ClassOk, WellFormed}
+use Rattle.model.specs.WellFormed.{WellFormed}
 use Rattle.model.proofs.Classes.{small-chunks, own-few, none-taken}
-use Rattle.model.proofs.Table.{slab-ok, in-table}
+use Rattle.model.proofs.Table.{in-table}
 use Rattle.model.proofs.Lists.{open-slab}
 use Rattle.model.proofs.FreeChunk.{drop-well}
 use Rattle.maps.specs.Bitmap.{bitsOf, withMark}
@@ -57,11 +56,13 @@ use Rattle.chunk_laws.proofs.Counts.{used-frame, total-frame, free-fram
 use Rattle.chunk_laws.proofs.Maps.{has-map, map-byte, map-paged, map-recorded, mark-drawn}
 use Rattle.chunk_laws.proofs.Lists.{one-off}
 use Rattle.chunk_laws.proofs.Next.{fits-map, map-frame, class-drawn, midway-fits, shown-midway, class-same, counts-drawn}
+use Rattle.chunk_laws.proofs.Remarked.{Here, page-ok, page-below}
 use Rattle.chunk_laws.proofs.Remarked as remarked
 
-module _ (w : ℕ) (wide : 2 ≤ w) (narrow : w ≤ 255) (s : List ℕ) (B : Bytes s) (m : State) (W : WellFormed m) (few : m .size ≤ 4096)
-    (room : 8 + 72 * w + 4112 * m .size ≤ length s) (p c : ℕ) (k : ℕ → Bool) (is : m .page p ≡ slab c k)
+module _ {w : ℕ} {s : List ℕ} {m : State} {p c : ℕ} {k : ℕ → Bool} (H : Here w s m p c k)
     (i : ℕ) (in-use : own c ≤ i) (in-range : i < chunks c) (set : k i ≡ true) (last : hasTaken c (upd k i false) ≡ false) where
+  open Here H using (wide, narrow, slice as B, well as W, few, room, is)
+
   abbrev P : ℕ
   P = m .size
 
@@ -71,24 +72,18 @@ module _ (w : ℕ) (wide : 2 ≤ w) (narrow : w ≤ 255) (s : List ℕ) (B : Byt
   abbrev k′ : ℕ → Bool
   k′ = upd k i false
 
-  page-ok : ClassOk c k
-  page-ok = slab-ok (W .table) is
-
-  below : p < P
-  below = remarked.page-below m W few w wide narrow s B room p c k is
-
   used-one : usedOn c (slab c k) ≡ 1
   used-one =
       let z : usedOn c (slab c k) ≡ usedOn c (slab c k′) + 1 = used-bump c k′ k i in-use in-range (upd-same k i false) set (λ j d. sym (upd-other k i false j d)) in
       omega (arith, used-no c k′ last)
 
   last-told : lastTaken (draw w s m) (mapWord w P p c) c i ≡ true
-  last-told = remarked.last-taken-told m W few w wide narrow s B room p c k is i in-use in-range set ∙ ap not last
+  last-told = remarked.last-taken-told H i in-use in-range set ∙ ap not last
 
   -- a page with one chunk taken is not full
   unfilled : hasClear c k ≡ true
   unfilled = ⊎-elim (λ (h : hasClear c k ≡ true). h)
-      (λ (h : hasClear c k ≡ false). absurd (omega (arith, marks-all c page-ok h, marks-count c page-ok, used-one, own-few c (page-ok .in-range)))) (bool? (hasClear c k))
+      (λ (h : hasClear c k ≡ false). absurd (omega (arith, marks-all c (page-ok H) h, marks-count c (page-ok H), used-one, own-few c (page-ok H .in-range)))) (bool? (hasClear c k))
 
   listed : Mem p (m .lists c)
   listed = W .class-lists .all c p (rw is (open-slab c k ∙ unfilled))
@@ -116,21 +111,21 @@ module _ (w : ℕ) (wide : 2 ≤ w) (narrow : w ≤ 255) (s : List ℕ) (B : Byt
 
   free-more : stateImage m .freePages + 1 ≡ stateImage n .freePages
   unfolding stateImage
-  free-more = let z = rw (is, here) at (free-frame m n refl p below there) in omega arith
+  free-more = let z = rw (is, here) at (free-frame m n refl p (page-below H) there) in omega arith
 
   used-same : (d : ℕ) → d ≢ c → usedOf n d ≡ usedOf m d
   used-same d e =
-      let z = rw (is, here) at (used-frame m n refl p below there d) in
+      let z = rw (is, here) at (used-frame m n refl p (page-below H) there d) in
       omega (arith, used-none d idle refl, used-none d (slab c k) (ne-eqb c d (λ y. e (sym y))))
 
   total-same : (d : ℕ) → d ≢ c → shown n .total d ≡ shown m .total d
-  total-same d e = let z = rw (is, here, ne-eqb c d (λ y. e (sym y))) at (total-frame m n refl p below there d) in omega arith
+  total-same d e = let z = rw (is, here, ne-eqb c d (λ y. e (sym y))) at (total-frame m n refl p (page-below H) there d) in omega arith
 
   own-record : pageBack c (midway m n .class c) ≡ stateImage n .class c
   unfolding stateImage
   own-record =
-      let u : usedOf m c - 1 ≡ usedOf n c = omega (arith, rw (is, here) at (used-frame m n refl p below there c), used-none c idle refl, used-one) in
-      let t : shown m .total c - counted c ≡ shown n .total c = omega (arith, rw (is, here, eq-eqb c c refl) at (total-frame m n refl p below there c)) in
+      let u : usedOf m c - 1 ≡ usedOf n c = omega (arith, rw (is, here) at (used-frame m n refl p (page-below H) there c), used-none c idle refl, used-one) in
+      let t : shown m .total c - counted c ≡ shown n .total c = omega (arith, rw (is, here, eq-eqb c c refl) at (total-frame m n refl p (page-below H) there c)) in
       λ j. classRecord (stateImage n .class c .first .0) (u j) (t j) (m .tally c)
 
   -- ---- lists
@@ -148,31 +143,31 @@ module _ (w : ℕ) (wide : 2 ≤ w) (narrow : w ≤ 255) (s : List ℕ) (B : Byt
   busy q a b = let e : q ≡ p = omega arith in rw (e, is)
 
   T : Scene P (m .page) (m .runs) less
-  T = remarked.less-scene m W few w wide narrow s B room p c k is listed
+  T = remarked.less-scene H listed
 
   off : (d q : ℕ) → d ≤ 8 → p ≤ q → q < p + 1 → ¬ Mem q (less d)
-  off d q l a b = let e : q ≡ p = omega arith in rw e (remarked.less-unlisted m W few w wide narrow s B room p c k is listed .no-class d l)
+  off d q l a b = let e : q ≡ p = omega arith in rw e (remarked.less-unlisted H listed .no-class d l)
 
   shows : ShowsOn (λ q. (q < P) × Out p 1 q) (m .page) (m .runs) less J
-  shows = remarked.delisted-shows m W few w wide narrow s B room p c k is listed
+  shows = remarked.delisted-shows H listed
 
   lists-drawn : pagesReleased w (delisted w (draw w s m) c p) P p 1 ≡ paint w P (midway m n) S
   lists-drawn =
       rw (
-        remarked.delisted-drawn m W few w wide narrow s B room p c k is listed,
-        released-paint w P wide narrow T (remarked.delisted-fits m W few w wide narrow s B room p c k is listed) p 1 shows (omega arith) (omega (arith, below)) busy off
-            (λ q l e. omega (arith, W .table .ends q e)) most S (remarked.records-room m W few w wide narrow s B room p c k is),
+        remarked.delisted-drawn H listed,
+        released-paint w P wide narrow T (remarked.delisted-fits H listed) p 1 shows (omega arith) (omega (arith, page-below H)) busy off
+            (λ q l e. omega (arith, W .table .ends q e)) most S (remarked.records-room H),
       )
-      (shown-midway m n W Wn refl few K (released-shows T p 1 shows (omega arith) (omega (arith, below)) busy off)
-      (released-pages T p 1 shows (omega arith) (omega (arith, below)) busy off ∙ ap (λ (x : ℕ). x + 1) (relinked .free-pages) ∙ free-more)
-      (λ d. class d) (λ q. ap (λ (f : ℕ → ℕ). f q) (released-map T p 1 shows (omega arith) (omega (arith, below)) busy off ∙ relinked .map)) w S)
+      (shown-midway m n W Wn refl few K (released-shows T p 1 shows (omega arith) (omega (arith, page-below H)) busy off)
+      (released-pages T p 1 shows (omega arith) (omega (arith, page-below H)) busy off ∙ ap (λ (x : ℕ). x + 1) (relinked .free-pages) ∙ free-more)
+      (λ d. class d) (λ q. ap (λ (f : ℕ → ℕ). f q) (released-map T p 1 shows (omega arith) (omega (arith, page-below H)) busy off ∙ relinked .map)) w S)
     where
       most : J .freePages + 1 < 65536
       most = rw (relinked .free-pages) (unfold stateImage freeIn in omega (arith, count-bound (λ j. isIdle (m .page j)) (m .size)))
 
       class : (d : ℕ) → K .class d ≡ firstTo (stateImage m .class d) (K .class d .first .0)
       class d =
-          let e : K .class d ≡ J .class d = ap (λ (f : ℕ → ClassRecord). f d) (released-class T p 1 shows (omega arith) (omega (arith, below)) busy off) in
+          let e : K .class d ≡ J .class d = ap (λ (f : ℕ → ClassRecord). f d) (released-class T p 1 shows (omega arith) (omega (arith, page-below H)) busy off) in
           e ∙ relinked .class d ∙ ap (λ (r : ClassRecord). firstTo (stateImage m .class d) (r .first .0)) (sym e)
 
   -- ---- maps
@@ -183,7 +178,7 @@ module _ (w : ℕ) (wide : 2 ≤ w) (narrow : w ≤ 255) (s : List ℕ) (B : Byt
     where
       clear : 3 ≤ c → (j : ℕ) → (j < chunks c) ⊎ (chunks c ≤ j) → k′ j ≡ false
       clear h j (inl l) = none-taken c k′ last j (omega (arith, own-past c h)) l
-      clear h j (inr l) = upd-other k i false j (omega arith) ∙ page-ok .past-clear j l
+      clear h j (inr l) = upd-other k i false j (omega arith) ∙ page-ok H .past-clear j l
 
   abbrev m₁ : State
   m₁ = withPage m p (slab c k′)
@@ -206,7 +201,7 @@ module _ (w : ℕ) (wide : 2 ≤ w) (narrow : w ≤ 255) (s : List ℕ) (B : Byt
 
   cleared : withMark (draw w s m) (mapBase w P p c) i false ≡ paint w P (setMap (stateImage m) p (mapOf (slab c k′))) (mapped w m₁ s)
   unfolding draw
-  cleared = mark-drawn w s m W room p below wide narrow few B (stateImage m) (state-fits W few) maps c k is (unfold stateImage in (rw is)) i false in-range
+  cleared = mark-drawn w s m W room p (page-below H) wide narrow few B (stateImage m) (state-fits W few) maps c k is (unfold stateImage in (rw is)) i false in-range
 
   over : draw w (withMark (draw w s m) (mapBase w P p c) i false) n ≡ paint w P (stateImage n) (mapped w m₁ s)
   over =
@@ -222,9 +217,9 @@ module _ (w : ℕ) (wide : 2 ≤ w) (narrow : w ≤ 255) (s : List ℕ) (B : Byt
       let F = midway-fits m n W Wn refl few in
       let z : withMark (pagesReleased w (delisted w (draw w s m) c p) P p 1) (mapBase w P p c) i false ≡ paint w P (setMap (midway m n) p (mapOf (slab c k′))) (mapped w m₁ s) =
       ap (λ (t : List ℕ). withMark t (mapBase w P p c) i false) lists-drawn
-      ∙ mark-drawn w s m W room p below wide narrow few B (midway m n) F maps c k is (unfold stateImage in (rw is)) i false in-range in
+      ∙ mark-drawn w s m W room p (page-below H) wide narrow few B (midway m n) F maps c k is (unfold stateImage in (rw is)) i false in-range in
       rw (last-told, z, next)
       (class-drawn w P wide (setMap (midway m n) p (mapOf (slab c k′))) (mapped w m₁ s) (rw (length-mapped w m₁ s) (omega arith)) (fits-map F p (mapOf (slab c k′))) c
-      (page-ok .in-range) (pageBack c)
+      (page-ok H .in-range) (pageBack c)
       ∙ counts-drawn m n W Wn refl few c _ _ (λ q h. map-frame m n p (mapOf (slab c k′)) there (ap mapOf here ∙ sym no-field) q) own-record
       (λ d e. class-same m n W Wn refl few d (used-same d e) (total-same d e) refl) w (mapped w m₁ s) ∙ sym over)

@@ -3,9 +3,8 @@ use mathlib.Core.Path.{_≡_, refl, sym, _∙_, ap}
 use mathlib.Core.Logic.{_⊎_, inl, inr, ⊎-elim, _≢_}
 use mathlib.Core.Bool.{Bool, true, false, not}
 use mathlib.Core.List.{List, [], _∷_}
-use Prim.Native.Nat.{ℕ, suc, _+_, _-_, _*_, _≤_, _<_}
+use Prim.Native.Nat.{ℕ, suc, _+_, _-_, _≤_, _<_}
 use native.Mathlib.Omega.{arith}
-use lib.ListN.{length}
 use borrow.Author.Tests.{ne-eqb}
 use Rattle.base.specs.Tests.{pick}
 use Rattle.base.specs.Functions.{upd}
@@ -13,14 +12,12 @@ use Rattle.base.specs.Lists.{Mem}
 use Rattle.base.specs.Links.{headOr}
 use Rattle.base.proofs.Cases.{eq?, bool?}
 use Rattle.base.proofs.Functions.{upd-same, upd-other}
-use Rattle.words.specs.Word.{Bytes}
 use Rattle.records.specs.Layout.{noPage}
 use Rattle.model.specs.Classes.{chunks, own, hasClear, hasTaken}
-use Rattle.model.specs.State.{slab, State, isOpen}
+use Rattle.model.specs.State.{slab, State, isOpen, isOpen}
 use Rattle.model.specs.View.{usedOn, usedOf, shown}
 use Rattle.model.specs.Calls.{relisted, keepPage}
-use Rattle.model.specs.WellFormed.{ClassOk, WellFormed}
-use Rattle.model.proofs.Table.{slab-ok}
+use Rattle.model.specs.WellFormed.{WellFormed}
 use Rattle.model.proofs.Lists.{open-slab, open-other}
 use Rattle.model.proofs.FreeChunk.{kept-well}
 use Rattle.image.specs.Image.{Image, paint, setLinks}
@@ -40,11 +37,13 @@ use Rattle.drawing.specs.Draw.{mapped, draw}
 use Rattle.chunk_laws.specs.Midway.{midway}
 use Rattle.chunk_laws.proofs.Counts.{used-bump}
 use Rattle.chunk_laws.proofs.Lists.{pushed-shows, enlisted-painted}
+use Rattle.chunk_laws.proofs.Remarked.{Here, page-ok, page-below}
 use Rattle.chunk_laws.proofs.Remarked as remarked
 
-module _ (w : ℕ) (wide : 2 ≤ w) (narrow : w ≤ 255) (s : List ℕ) (B : Bytes s) (m : State) (W : WellFormed m) (few : m .size ≤ 4096)
-    (room : 8 + 72 * w + 4112 * m .size ≤ length s) (p c : ℕ) (k : ℕ → Bool) (is : m .page p ≡ slab c k)
+module _ {w : ℕ} {s : List ℕ} {m : State} {p c : ℕ} {k : ℕ → Bool} (H : Here w s m p c k)
     (i : ℕ) (in-use : own c ≤ i) (in-range : i < chunks c) (set : k i ≡ true) (stay : hasTaken c (upd k i false) ≡ true) where
+  open Here H using (wide, narrow, slice as B, well as W, few, room, is)
+
   abbrev P : ℕ
   P = m .size
 
@@ -65,25 +64,19 @@ module _ (w : ℕ) (wide : 2 ≤ w) (narrow : w ≤ 255) (s : List ℕ) (B : Byt
   unfolding keepPage
   Wn = kept-well m W p c k i is in-use in-range set stay
 
-  page-ok : ClassOk c k
-  page-ok = slab-ok (W .table) is
-
-  below : p < P
-  below = remarked.page-below m W few w wide narrow s B room p c k is
-
   used-more : usedOn c (slab c k) ≡ usedOn c (slab c k′) + 1
   used-more = used-bump c k′ k i in-use in-range (upd-same k i false) set (λ j d. sym (upd-other k i false j d))
 
   full : (b : Bool) → hasClear c k ≡ b → isFull (draw w s m) (mapWord w P p c) c ≡ not b
-  full b h = remarked.full-told m W few w wide narrow s B room p c k is ∙ ap not h
+  full b h = remarked.full-told H ∙ ap not h
 
   -- ---- the class record
 
   own-record : chunkBack (midway m n .class c) ≡ stateImage n .class c
   unfolding stateImage
   own-record =
-      let u : usedOf m c - 1 ≡ usedOf n c = omega (arith, used-more, remarked.used-own m W few w wide narrow s B room p c k is i false in-range l (m .tally)) in
-      let t : shown m .total c ≡ shown n .total c = sym (remarked.total-same m W few w wide narrow s B room p c k is i false in-range l (m .tally) c) in
+      let u : usedOf m c - 1 ≡ usedOf n c = omega (arith, used-more, remarked.used-own H i false in-range l (m .tally)) in
+      let t : shown m .total c ≡ shown n .total c = sym (remarked.total-same H i false in-range l (m .tally) c) in
       λ j. classRecord (stateImage n .class c .first .0) (u j) (t j) (m .tally c)
 
   -- ---- the lists
@@ -92,18 +85,18 @@ module _ (w : ℕ) (wide : 2 ≤ w) (narrow : w ≤ 255) (s : List ℕ) (B : Byt
   unfolding fullReturns pick relisted
   stays h =
       rw (full true h)
-      (remarked.list-stays m W few w wide narrow s B room p c k is i false in-range l (m .tally) Wn (rw h))
+      (remarked.list-stays H i false in-range l (m .tally) Wn (rw h))
 
   returns : hasClear c k ≡ false → fullReturns w (draw w s m) c p (isFull (draw w s m) (mapWord w P p c) c) ≡ paint w P (midway m n) S
   unfolding fullReturns pick draw
   returns h =
       rw (
         full false h,
-        enlisted-painted w P wide narrow (omega arith) S (remarked.records-room m W few w wide narrow s B room p c k is) (state-fits W few) c p (page-ok .in-range) below first,
+        enlisted-painted w P wide narrow (omega arith) S (remarked.records-room H) (state-fits W few) c p (page-ok H .in-range) (page-below H) first,
       )
-      (remarked.lists-drawn m W few w wide narrow s B room p c k is i false in-range l (m .tally) Wn (upd (m .lists) c (p ∷ m .lists c)) L
+      (remarked.lists-drawn H i false in-range l (m .tally) Wn (upd (m .lists) c (p ∷ m .lists c)) L
       (λ d. unfold relisted in (rw h))
-      (pushed-shows (state-scene W (omega arith)) c (page-ok .in-range) (W .class-lists .once c) (remarked.lists-apart m W few c) (state-shows m W (omega arith)) p below off k is
+      (pushed-shows (state-scene W (omega arith)) c (page-ok H .in-range) (W .class-lists .once c) (remarked.lists-apart m W few c) (state-shows m W (omega arith)) p (page-below H) off k is
       (λ q h o. h))
       (pushed .free-pages) (pushed .class) (pushed .map))
     where
@@ -117,7 +110,7 @@ module _ (w : ℕ) (wide : 2 ≤ w) (narrow : w ≤ 255) (s : List ℕ) (B : Byt
       first =
           unfold stateImage firstIn in
           let e : suc c - 1 ≡ c = omega arith in
-          rw (ne-eqb (suc c) 0 (omega arith), e) (go (m .lists c) (λ q h. state-scene W (omega arith) .class-in c q (page-ok .in-range) h .0))
+          rw (ne-eqb (suc c) 0 (omega arith), e) (go (m .lists c) (λ q h. state-scene W (omega arith) .class-in c q (page-ok H .in-range) h .0))
         where
           go : (xs : List ℕ) → ((q : ℕ) → Mem q xs → q < P) → Maybe P (headOr noPage xs)
           go [] h = inl refl
@@ -136,6 +129,6 @@ module _ (w : ℕ) (wide : 2 ≤ w) (narrow : w ≤ 255) (s : List ℕ) (B : Byt
   pub chunk-kept : chunkFreed w (draw w s m) P c p i ≡ draw w s (keepPage m p c k i)
   unfolding chunkFreed chunkKept countBack keepPage pick
   chunk-kept =
-      rw (remarked.last-taken-told m W few w wide narrow s B room p c k is i in-use in-range set ∙ ap not stay)
-      (remarked.remarked-drawn m W few w wide narrow s B room p c k is i false in-range l (m .tally) Wn chunkBack own-record (λ d e. refl) _
+      rw (remarked.last-taken-told H i in-use in-range set ∙ ap not stay)
+      (remarked.remarked-drawn H i false in-range l (m .tally) Wn chunkBack own-record (λ d e. refl) _
       (⊎-elim stays returns (bool? (hasClear c k))))

@@ -80,7 +80,7 @@ shows-alike {on} {page} {page′} {rs} {ls} {J} e S = record {
   unlisted = λ q o u. S .unlisted q o u ∙ sym (e q);
 }
 
--- ---- a class page of a well-formed state
+-- ---- the lists of a well-formed state
 
 module _ (m : State) (W : WellFormed m) (few : m .size ≤ 4096) where
   scene : Scene (m .size) (m .page) (m .runs) (m .lists)
@@ -92,198 +92,210 @@ module _ (m : State) (W : WellFormed m) (few : m .size ≤ 4096) where
       let (j, y, _) = open-is c (m .page q) (W .class-lists .holds c q b) in
       e (cc)
 
-  module _ (w : ℕ) (wide : 2 ≤ w) (narrow : w ≤ 255) (s : List ℕ) (B : Bytes s) (room : 8 + 72 * w + 4112 * m .size ≤ length s)
-      (p c : ℕ) (k : ℕ → Bool) (is : m .page p ≡ slab c k) where
-    abbrev P : ℕ
-    P = m .size
+-- ---- a class page of a well-formed state, over a slice with room for it
 
-    abbrev S : List ℕ
-    S = mapped w m s
+pub record Here (w : ℕ) (s : List ℕ) (m : State) (p c : ℕ) (k : ℕ → Bool) : Type 0 where
+  pub wide : 2 ≤ w
+  pub narrow : w ≤ 255
+  pub slice : Bytes s
+  pub well : WellFormed m
+  pub few : m .size ≤ 4096
+  pub room : 8 + 72 * w + 4112 * m .size ≤ length s
+  pub is : m .page p ≡ slab c k
 
-    pub page-below : p < P
-    page-below = in-table (W .table) p (λ z. never (cc))
+module _ {w : ℕ} {s : List ℕ} {m : State} {p c : ℕ} {k : ℕ → Bool} (H : Here w s m p c k) where
+  open Here H using (wide, narrow, slice as B, well as W, few, room, is)
 
-    pub page-ok : ClassOk c k
-    page-ok = slab-ok (W .table) is
+  abbrev P : ℕ
+  P = m .size
 
-    pub records-room : 1 + 9 * w + 2 * P ≤ length S / 8
-    records-room = rw (length-mapped w m s) (omega arith)
+  abbrev S : List ℕ
+  S = mapped w m s
 
-    -- the marks that the code reads
-    shown-mark : (i : ℕ) → i < mapBits c → mark (paint w P (stateImage m) S) (mapBase w P p c) i ≡ k i
-    shown-mark = marks-shown w s m W room p page-below wide narrow few B (stateImage m) (state-fits W few) maps c k is (unfold stateImage in (rw is))
+  pub page-below : p < P
+  page-below = in-table (W .table) p (λ z. never (cc))
+
+  pub page-ok : ClassOk c k
+  page-ok = slab-ok (W .table) is
+
+  pub records-room : 1 + 9 * w + 2 * P ≤ length S / 8
+  records-room = rw (length-mapped w m s) (omega arith)
+
+  -- the marks that the code reads
+  shown-mark : (i : ℕ) → i < mapBits c → mark (paint w P (stateImage m) S) (mapBase w P p c) i ≡ k i
+  shown-mark = marks-shown w s m W room p page-below wide narrow few B (stateImage m) (state-fits W few) maps c k is (unfold stateImage in (rw is))
+    where
+      maps : (q : ℕ) → q < P → stateImage m .map q < 18446744073709551616
+      maps q l = unfold stateImage in map-small (m .page q)
+
+  pub lowest-found : lowestClear (draw w s m) (mapBase w P p c) (chunks c) ≡ lowest c k
+  unfolding lowestClear lowest draw
+  lowest-found = least-ext _ (λ i. not (k i)) (chunks c) (λ i l. ap not (shown-mark i (within i l (lt? c 3))))
+    where
+      within : (i : ℕ) → i < chunks c → (c < 3) ⊎ (3 ≤ c) → i < mapBits c
+      within i l (inl h) = unfold mapBits pick in (rw (lt-ltb c 3 h) l)
+      within i l (inr h) = unfold mapBits pick in (rw (le-ltb c 3 h) (omega (arith, large-chunks c h)))
+
+  -- how full the page is
+  base : 8 * mapWord w P p c ≡ mapBase w P p c
+  base = ⊎-elim (λ (h : c < 3). rw (word-paged w P p c h, base-paged w P p c h) (omega arith)) (λ (h : 3 ≤ c). rw (word-recorded w P p c h, base-recorded w P p c h)) (lt? c 3)
+
+  in-pool : mapWord w P p c + mapBits c / 64 ≤ length (draw w s m) / 8
+  unfolding draw
+  in-pool = rw (length-paint w P wide (stateImage m) S, length-mapped w m s) (go (lt? c 3))
+    where
+      go : (c < 3) ⊎ (3 ≤ c) → mapWord w P p c + mapBits c / 64 ≤ length s / 8
+      go (inl h) = rw (word-paged w P p c h) (omega (arith, page-below, bits-most c))
+      go (inr h) = rw (word-recorded w P p c h) (omega (arith, page-below, bits-most c))
+
+  bytes : Bytes (draw w s m)
+  unfolding draw stateImage
+  bytes = paint-keeps w P (stateImage m) S narrow (omega arith) (state-fits W few) (λ q h. map-small (m .page q)) (mapped-keeps w m s B)
+
+  mark-told : (i : ℕ) → i < mapBits c → mark (draw w s m) (8 * mapWord w P p c) i ≡ k i
+  unfolding draw
+  mark-told i l = ap (λ (x : ℕ). mark (paint w P (stateImage m) S) x i) base ∙ shown-mark i l
+
+  pub full-told : isFull (draw w s m) (mapWord w P p c) c ≡ not (hasClear c k)
+  full-told = full-is (draw w s m) bytes (mapWord w P p c) c in-pool k mark-told (page-ok .past-clear)
+
+  pub last-free-told : (i : ℕ) → k i ≡ false → lastFree (draw w s m) (mapWord w P p c) c i ≡ not (hasClear c (upd k i true))
+  last-free-told i = last-free-is (draw w s m) bytes (mapWord w P p c) c in-pool k mark-told (page-ok .past-clear) i
+
+  pub last-taken-told : (i : ℕ) → own c ≤ i → i < chunks c → k i ≡ true → lastTaken (draw w s m) (mapWord w P p c) c i ≡ not (hasTaken c (upd k i false))
+  last-taken-told i o l t = last-taken-is (draw w s m) bytes (mapWord w P p c) c in-pool k mark-told (page-ok .past-clear) i o l t (page-ok .own-set)
+
+  -- ---- the page leaves its list
+
+  module _ (listed : Mem p (m .lists c)) where
+    near : (q : ℕ) → Mem q (m .lists c) → Maybe P q
+    near q h = inr (scene m W few .class-in c q (page-ok .in-range) h .0)
+
+    before-page : (q : ℕ) → Mem q (noPage ∷ m .lists c) → Maybe P q
+    before-page q (inl e) = inl e
+    before-page q (inr h) = near q h
+
+    after-page : (q : ℕ) → (q ≡ noPage) ⊎ Mem q (m .lists c) → Maybe P q
+    after-page q (inl e) = inl e
+    after-page q (inr h) = near q h
+
+    page-links : stateImage m .links p ≡ onList 2 c 0 p (m .lists c)
+    unfolding stateImage
+    page-links = rw is
+
+    pub delisted-drawn : delisted w (draw w s m) c p ≡ paint w P (unlink (stateImage m) (suc c) (stateImage m .links p)) S
+    unfolding delisted draw
+    delisted-drawn =
+        let F = state-fits W few in
+        let z : listOf c ≡ suc c = omega (arith, page-ok .in-range) in
+        rw (z, links-shown w P wide (stateImage m) S records-room p page-below (F .links p page-below))
+        (unlink-paint w P wide narrow (omega arith) S records-room F (suc c) (stateImage m .links p) (omega (arith, page-ok .in-range))
+        (rw page-links (before-page _ (prev-on noPage noPage p (m .lists c) listed))) (rw page-links (after-page _ (next-on noPage p (m .lists c)))))
+
+    pub delisted-fits : Fits P (unlink (stateImage m) (suc c) (stateImage m .links p))
+    unfolding unlink
+    delisted-fits =
+        let top : P ≤ noPage = omega arith in
+        let a : Maybe P (stateImage m .links p .prev .0) = rw page-links (before-page _ (prev-on noPage noPage p (m .lists c) listed)) in
+        let b : Maybe P (stateImage m .links p .next .0) = rw page-links (after-page _ (next-on noPage p (m .lists c))) in
+        fits-prev w P wide narrow top (fits-next w P wide narrow top (state-fits W few) (suc c) _ _ (small P top b)) _ _ (small P top a)
+
+    abbrev pub less : ℕ → List ℕ
+    less = upd (m .lists) c (keep (others p) (m .lists c))
+
+    in-less : (d q : ℕ) → Mem q (less d) → Mem q (m .lists d) × ((d ≡ c) → q ≢ p)
+    in-less d q h = go (eq? d c)
       where
-        maps : (q : ℕ) → q < P → stateImage m .map q < 18446744073709551616
-        maps q l = unfold stateImage in map-small (m .page q)
+        go : (d ≡ c) ⊎ (d ≢ c) → Mem q (m .lists d) × ((d ≡ c) → q ≢ p)
+        go (inl e) =
+            let (a, b) = keep-mem (others p) q (m .lists c) (rw (e, upd-same (m .lists) c (keep (others p) (m .lists c))) at h) in
+            (rw e a, λ _ z. clash b (unfold others in (rw (eq-eqb q p z))))
+        go (inr e) = (rw (upd-other (m .lists) c (keep (others p) (m .lists c)) d e) at h, λ z. absurd (e z))
 
-    pub lowest-found : lowestClear (draw w s m) (mapBase w P p c) (chunks c) ≡ lowest c k
-    unfolding lowestClear lowest draw
-    lowest-found = least-ext _ (λ i. not (k i)) (chunks c) (λ i l. ap not (shown-mark i (within i l (lt? c 3))))
+    pub less-scene : Scene P (m .page) (m .runs) less
+    less-scene = record {
+      few = scene m W few .few;
+      runs = scene m W few .runs;
+      idle-in = scene m W few .idle-in;
+      class-in = λ d q l h. scene m W few .class-in d q l (in-less d q h .0);
+    }
+
+    pub less-unlisted : Unlisted (m .runs) less p
+    less-unlisted = record {
+      no-run = not-start (W .table) (W .free-runs) (W .class-lists) p (rw is);
+      no-class = λ d l h. go d l (in-less d p h) (eq? d c);
+    }
       where
-        within : (i : ℕ) → i < chunks c → (c < 3) ⊎ (3 ≤ c) → i < mapBits c
-        within i l (inl h) = unfold mapBits pick in (rw (lt-ltb c 3 h) l)
-        within i l (inr h) = unfold mapBits pick in (rw (le-ltb c 3 h) (omega (arith, large-chunks c h)))
+        go : (d : ℕ) → d ≤ 8 → Mem p (m .lists d) × ((d ≡ c) → p ≢ p) → (d ≡ c) ⊎ (d ≢ c) → ⊥
+        go d l (a, b) (inl e) = b e refl
+        go d l (a, b) (inr e) = lists-apart m W few c d p l e a listed
 
-    -- how full the page is
-    base : 8 * mapWord w P p c ≡ mapBase w P p c
-    base = ⊎-elim (λ (h : c < 3). rw (word-paged w P p c h, base-paged w P p c h) (omega arith)) (λ (h : 3 ≤ c). rw (word-recorded w P p c h, base-recorded w P p c h)) (lt? c 3)
+    pub delisted-shows : ShowsOn (λ q. (q < P) × Out p 1 q) (m .page) (m .runs) less
+        (unlink (stateImage m) (suc c) (stateImage m .links p))
+    delisted-shows =
+        left-shows (scene m W few) c (page-ok .in-range) (W .class-lists .once c) (lists-apart m W few c) (state-shows m W (omega arith)) p listed (λ q h o. h)
 
-    in-pool : mapWord w P p c + mapBits c / 64 ≤ length (draw w s m) / 8
-    unfolding draw
-    in-pool = rw (length-paint w P wide (stateImage m) S, length-mapped w m s) (go (lt? c 3))
-      where
-        go : (c < 3) ⊎ (3 ≤ c) → mapWord w P p c + mapBits c / 64 ≤ length s / 8
-        go (inl h) = rw (word-paged w P p c h) (omega (arith, page-below, bits-most c))
-        go (inr h) = rw (word-recorded w P p c h) (omega (arith, page-below, bits-most c))
+  -- ---- mark i is written: k′ are the new marks, l the new list of class c
 
-    bytes : Bytes (draw w s m)
-    unfolding draw stateImage
-    bytes = paint-keeps w P (stateImage m) S narrow (omega arith) (state-fits W few) (λ q h. map-small (m .page q)) (mapped-keeps w m s B)
+  module _ (i : ℕ) (v : Bool) (in-range : i < chunks c) (l : List ℕ) (ta : ℕ → Tally) where
+    abbrev k′ : ℕ → Bool
+    k′ = upd k i v
 
-    mark-told : (i : ℕ) → i < mapBits c → mark (draw w s m) (8 * mapWord w P p c) i ≡ k i
-    unfolding draw
-    mark-told i l = ap (λ (x : ℕ). mark (paint w P (stateImage m) S) x i) base ∙ shown-mark i l
+    abbrev pub n : State
+    n = record { size = m .size; page = upd (m .page) p (slab c k′); runs = m .runs; lists = upd (m .lists) c l; tally = ta }
 
-    pub full-told : isFull (draw w s m) (mapWord w P p c) c ≡ not (hasClear c k)
-    full-told = full-is (draw w s m) bytes (mapWord w P p c) c in-pool k mark-told (page-ok .past-clear)
+    here : n .page p ≡ slab c k′
+    here = upd-same (m .page) p (slab c k′)
 
-    pub last-free-told : (i : ℕ) → k i ≡ false → lastFree (draw w s m) (mapWord w P p c) c i ≡ not (hasClear c (upd k i true))
-    last-free-told i = last-free-is (draw w s m) bytes (mapWord w P p c) c in-pool k mark-told (page-ok .past-clear) i
+    there : (q : ℕ) → q ≢ p → n .page q ≡ m .page q
+    there q d = upd-other (m .page) p (slab c k′) q d
 
-    pub last-taken-told : (i : ℕ) → own c ≤ i → i < chunks c → k i ≡ true → lastTaken (draw w s m) (mapWord w P p c) c i ≡ not (hasTaken c (upd k i false))
-    last-taken-told i o l t = last-taken-is (draw w s m) bytes (mapWord w P p c) c in-pool k mark-told (page-ok .past-clear) i o l t (page-ok .own-set)
+    pub free-same : stateImage m .freePages ≡ stateImage n .freePages
+    unfolding stateImage
+    free-same = let z = rw (is, here) at (free-frame m n refl p page-below there) in omega arith
 
-    -- ---- the page leaves its list
+    pub total-same : (d : ℕ) → shown n .total d ≡ shown m .total d
+    total-same d = let z = rw (is, here) at (total-frame m n refl p page-below there d) in omega arith
 
-    module _ (listed : Mem p (m .lists c)) where
-      near : (q : ℕ) → Mem q (m .lists c) → Maybe P q
-      near q h = inr (scene .class-in c q (page-ok .in-range) h .0)
+    pub used-other : (d : ℕ) → d ≢ c → usedOf n d ≡ usedOf m d
+    used-other d e =
+        let z = rw (is, here) at (used-frame m n refl p page-below there d) in
+        omega (arith, used-none d (slab c k) (ne-eqb c d (λ x. e (sym x))), used-none d (slab c k′) (ne-eqb c d (λ x. e (sym x))))
 
-      before-page : (q : ℕ) → Mem q (noPage ∷ m .lists c) → Maybe P q
-      before-page q (inl e) = inl e
-      before-page q (inr h) = near q h
+    pub used-own : usedOf n c + usedOn c (slab c k) ≡ usedOf m c + usedOn c (slab c k′)
+    used-own = rw (is, here) at (used-frame m n refl p page-below there c)
 
-      after-page : (q : ℕ) → (q ≡ noPage) ⊎ Mem q (m .lists c) → Maybe P q
-      after-page q (inl e) = inl e
-      after-page q (inr h) = near q h
+    -- an image that shows the new list, and the old counts and maps
+    module _ (Wn : WellFormed n) where
+      pub lists-drawn : (ls : ℕ → List ℕ) (K : Image) → ((d : ℕ) → ls d ≡ n .lists d) → ShowsLinks P (m .page) (m .runs) ls K
+          → K .freePages ≡ stateImage m .freePages → ((d : ℕ) → K .class d ≡ firstTo (stateImage m .class d) (K .class d .first .0)) → K .map ≡ stateImage m .map
+          → paint w P K S ≡ paint w P (midway m n) S
+      lists-drawn ls K e L free class map =
+          shown-midway m n W Wn refl few K
+          (shows-alike (same-links (m .runs) (n .lists) (m .page) p c k k′ is) (subst (λ (x : ℕ → List ℕ). ShowsLinks P (m .page) (m .runs) x K) (fun-ext e) L))
+          (free ∙ free-same) class (λ q. ap (λ (g : ℕ → ℕ). g q) map) w S
 
-      page-links : stateImage m .links p ≡ onList 2 c 0 p (m .lists c)
-      unfolding stateImage
-      page-links = rw is
+      -- the list stays
+      pub list-stays : m .lists c ≡ l → draw w s m ≡ paint w P (midway m n) S
+      unfolding draw
+      list-stays e =
+          lists-drawn (m .lists) (stateImage m)
+          (λ d. ⊎-elim (λ (z : d ≡ c). ap (m .lists) z ∙ e ∙ sym (ap (n .lists) z ∙ upd-same (m .lists) c l)) (λ (z : d ≢ c). sym (upd-other (m .lists) c l d z)) (eq? d c))
+          (state-shows m W (omega arith)) refl (λ d. refl) refl
 
-      pub delisted-drawn : delisted w (draw w s m) c p ≡ paint w P (unlink (stateImage m) (suc c) (stateImage m .links p)) S
-      unfolding delisted draw
-      delisted-drawn =
-          let F = state-fits W few in
-          let z : listOf c ≡ suc c = omega (arith, page-ok .in-range) in
-          rw (z, links-shown w P wide (stateImage m) S records-room p page-below (F .links p page-below))
-          (unlink-paint w P wide narrow (omega arith) S records-room F (suc c) (stateImage m .links p) (omega (arith, page-ok .in-range))
-          (rw page-links (before-page _ (prev-on noPage noPage p (m .lists c) listed))) (rw page-links (after-page _ (next-on noPage p (m .lists c)))))
-
-      pub delisted-fits : Fits P (unlink (stateImage m) (suc c) (stateImage m .links p))
-      unfolding unlink
-      delisted-fits =
-          let top : P ≤ noPage = omega arith in
-          let a : Maybe P (stateImage m .links p .prev .0) = rw page-links (before-page _ (prev-on noPage noPage p (m .lists c) listed)) in
-          let b : Maybe P (stateImage m .links p .next .0) = rw page-links (after-page _ (next-on noPage p (m .lists c))) in
-          fits-prev w P wide narrow top (fits-next w P wide narrow top (state-fits W few) (suc c) _ _ (small P top b)) _ _ (small P top a)
-
-      abbrev pub less : ℕ → List ℕ
-      less = upd (m .lists) c (keep (others p) (m .lists c))
-
-      in-less : (d q : ℕ) → Mem q (less d) → Mem q (m .lists d) × ((d ≡ c) → q ≢ p)
-      in-less d q h = go (eq? d c)
-        where
-          go : (d ≡ c) ⊎ (d ≢ c) → Mem q (m .lists d) × ((d ≡ c) → q ≢ p)
-          go (inl e) =
-              let (a, b) = keep-mem (others p) q (m .lists c) (rw (e, upd-same (m .lists) c (keep (others p) (m .lists c))) at h) in
-              (rw e a, λ _ z. clash b (unfold others in (rw (eq-eqb q p z))))
-          go (inr e) = (rw (upd-other (m .lists) c (keep (others p) (m .lists c)) d e) at h, λ z. absurd (e z))
-
-      pub less-scene : Scene P (m .page) (m .runs) less
-      less-scene = record {
-        few = scene .few;
-        runs = scene .runs;
-        idle-in = scene .idle-in;
-        class-in = λ d q l h. scene .class-in d q l (in-less d q h .0);
-      }
-
-      pub less-unlisted : Unlisted (m .runs) less p
-      less-unlisted = record {
-        no-run = not-start (W .table) (W .free-runs) (W .class-lists) p (rw is);
-        no-class = λ d l h. go d l (in-less d p h) (eq? d c);
-      }
-        where
-          go : (d : ℕ) → d ≤ 8 → Mem p (m .lists d) × ((d ≡ c) → p ≢ p) → (d ≡ c) ⊎ (d ≢ c) → ⊥
-          go d l (a, b) (inl e) = b e refl
-          go d l (a, b) (inr e) = lists-apart c d p l e a listed
-
-      pub delisted-shows : ShowsOn (λ q. (q < P) × Out p 1 q) (m .page) (m .runs) less
-          (unlink (stateImage m) (suc c) (stateImage m .links p))
-      delisted-shows =
-          left-shows scene c (page-ok .in-range) (W .class-lists .once c) (lists-apart c) (state-shows m W (omega arith)) p listed (λ q h o. h)
-
-    -- ---- mark i is written: k′ are the new marks, l the new list of class c
-
-    module _ (i : ℕ) (v : Bool) (in-range : i < chunks c) (l : List ℕ) (ta : ℕ → Tally) where
-      abbrev k′ : ℕ → Bool
-      k′ = upd k i v
-
-      abbrev pub n : State
-      n = record { size = m .size; page = upd (m .page) p (slab c k′); runs = m .runs; lists = upd (m .lists) c l; tally = ta }
-
-      here : n .page p ≡ slab c k′
-      here = upd-same (m .page) p (slab c k′)
-
-      there : (q : ℕ) → q ≢ p → n .page q ≡ m .page q
-      there q d = upd-other (m .page) p (slab c k′) q d
-
-      pub free-same : stateImage m .freePages ≡ stateImage n .freePages
-      unfolding stateImage
-      free-same = let z = rw (is, here) at (free-frame m n refl p page-below there) in omega arith
-
-      pub total-same : (d : ℕ) → shown n .total d ≡ shown m .total d
-      total-same d = let z = rw (is, here) at (total-frame m n refl p page-below there d) in omega arith
-
-      pub used-other : (d : ℕ) → d ≢ c → usedOf n d ≡ usedOf m d
-      used-other d e =
-          let z = rw (is, here) at (used-frame m n refl p page-below there d) in
-          omega (arith, used-none d (slab c k) (ne-eqb c d (λ x. e (sym x))), used-none d (slab c k′) (ne-eqb c d (λ x. e (sym x))))
-
-      pub used-own : usedOf n c + usedOn c (slab c k) ≡ usedOf m c + usedOn c (slab c k′)
-      used-own = rw (is, here) at (used-frame m n refl p page-below there c)
-
-      -- an image that shows the new list, and the old counts and maps
-      module _ (Wn : WellFormed n) where
-        pub lists-drawn : (ls : ℕ → List ℕ) (K : Image) → ((d : ℕ) → ls d ≡ n .lists d) → ShowsLinks P (m .page) (m .runs) ls K
-            → K .freePages ≡ stateImage m .freePages → ((d : ℕ) → K .class d ≡ firstTo (stateImage m .class d) (K .class d .first .0)) → K .map ≡ stateImage m .map
-            → paint w P K S ≡ paint w P (midway m n) S
-        lists-drawn ls K e L free class map =
-            shown-midway m n W Wn refl few K
-            (shows-alike (same-links (m .runs) (n .lists) (m .page) p c k k′ is) (subst (λ (x : ℕ → List ℕ). ShowsLinks P (m .page) (m .runs) x K) (fun-ext e) L))
-            (free ∙ free-same) class (λ q. ap (λ (g : ℕ → ℕ). g q) map) w S
-
-        -- the list stays
-        pub list-stays : m .lists c ≡ l → draw w s m ≡ paint w P (midway m n) S
-        unfolding draw
-        list-stays e =
-            lists-drawn (m .lists) (stateImage m)
-            (λ d. ⊎-elim (λ (z : d ≡ c). ap (m .lists) z ∙ e ∙ sym (ap (n .lists) z ∙ upd-same (m .lists) c l)) (λ (z : d ≢ c). sym (upd-other (m .lists) c l d z)) (eq? d c))
-            (state-shows m W (omega arith)) refl (λ d. refl) refl
-
-      -- the lists are drawn; then the mark and the class record
-      module _ (Wn : WellFormed n) (f : ClassRecord → ClassRecord) (own : f (midway m n .class c) ≡ stateImage n .class c)
-          (tally : (d : ℕ) → d ≢ c → ta d ≡ m .tally d) where
-        pub remarked-drawn : (t : List ℕ) → t ≡ paint w P (midway m n) S
-            → withClass w (withMark t (mapBase w P p c) i v) c (f (classAt w (withMark t (mapBase w P p c) i v) c)) ≡ draw w s n
-        unfolding draw mapped mappedByte inMap
-        remarked-drawn t e =
-            let F = midway-fits m n W Wn refl few in
-            let z : withMark t (mapBase w P p c) i v ≡ paint w P (setMap (midway m n) p (mapOf (slab c k′))) (mapped w n s) =
-            ap (λ (x : List ℕ). withMark x (mapBase w P p c) i v) e
-            ∙ mark-drawn w s m W room p page-below wide narrow few B (midway m n) F (λ q h. unfold stateImage in map-small (m .page q)) c k is (unfold stateImage in (rw is)) i v in-range in
-            rw z
-            (class-drawn w P wide (setMap (midway m n) p (mapOf (slab c k′))) (mapped w n s) (rw (length-mapped w n s) (omega arith)) (fits-map F p (mapOf (slab c k′))) c
-            (page-ok .in-range) f
-            ∙ counts-drawn m n W Wn refl few c _ _ (λ q h. map-frame m n p (mapOf (slab c k′)) there (ap mapOf here) q) own
-            (λ d x. class-same m n W Wn refl few d (used-other d x) (total-same d) (tally d x)) w (mapped w n s))
+    -- the lists are drawn; then the mark and the class record
+    module _ (Wn : WellFormed n) (f : ClassRecord → ClassRecord) (own : f (midway m n .class c) ≡ stateImage n .class c)
+        (tally : (d : ℕ) → d ≢ c → ta d ≡ m .tally d) where
+      pub remarked-drawn : (t : List ℕ) → t ≡ paint w P (midway m n) S
+          → withClass w (withMark t (mapBase w P p c) i v) c (f (classAt w (withMark t (mapBase w P p c) i v) c)) ≡ draw w s n
+      unfolding draw mapped mappedByte inMap
+      remarked-drawn t e =
+          let F = midway-fits m n W Wn refl few in
+          let z : withMark t (mapBase w P p c) i v ≡ paint w P (setMap (midway m n) p (mapOf (slab c k′))) (mapped w n s) =
+          ap (λ (x : List ℕ). withMark x (mapBase w P p c) i v) e
+          ∙ mark-drawn w s m W room p page-below wide narrow few B (midway m n) F (λ q h. unfold stateImage in map-small (m .page q)) c k is (unfold stateImage in (rw is)) i v in-range in
+          rw z
+          (class-drawn w P wide (setMap (midway m n) p (mapOf (slab c k′))) (mapped w n s) (rw (length-mapped w n s) (omega arith)) (fits-map F p (mapOf (slab c k′))) c
+          (page-ok .in-range) f
+          ∙ counts-drawn m n W Wn refl few c _ _ (λ q h. map-frame m n p (mapOf (slab c k′)) there (ap mapOf here) q) own
+          (λ d x. class-same m n W Wn refl few d (used-other d x) (total-same d) (tally d x)) w (mapped w n s))

@@ -3,9 +3,8 @@ use mathlib.Core.Path.{_≡_, refl, sym, ap, _∙_}
 use mathlib.Core.Logic.{inl, ⊎-elim}
 use mathlib.Core.Bool.{Bool, true, false, not, cond}
 use mathlib.Core.List.{List, _∷_}
-use Prim.Native.Nat.{ℕ, suc, _+_, _*_, _%_, _≤_, _<_}
+use Prim.Native.Nat.{ℕ, suc, _+_, _%_, _≤_, _<_}
 use native.Mathlib.Omega.{arith}
-use lib.ListN.{length}
 use borrow.Author.Tests.{eq-eqb, ne-eqb}
 use Rattle.base.specs.Tests.{pick}
 use Rattle.base.specs.Functions.{upd}
@@ -13,13 +12,11 @@ use Rattle.base.specs.Lists.{Mem, NoDup, keep}
 use Rattle.base.specs.Links.{others}
 use Rattle.base.proofs.Cases.{clash, lt?, bool?}
 use Rattle.base.proofs.Functions.{upd-same, upd-other, upd-out}
-use Rattle.words.specs.Word.{Bytes}
 use Rattle.model.specs.Classes.{chunks, own, lowest, hasClear}
 use Rattle.model.specs.State.{slab, State}
 use Rattle.model.specs.View.{usedOn, usedOf, shown}
 use Rattle.model.specs.Calls.{asked, markChunk}
-use Rattle.model.specs.WellFormed.{ClassOk, WellFormed}
-use Rattle.model.proofs.Table.{slab-ok}
+use Rattle.model.specs.WellFormed.{WellFormed}
 use Rattle.model.proofs.Classes.{lowest-clear}
 use Rattle.model.proofs.Lists.{open-slab}
 use Rattle.model.proofs.MarkChunk.{mark-well}
@@ -39,10 +36,12 @@ use Rattle.drawing.specs.Draw.{mapped, draw}
 use Rattle.chunk_laws.specs.Midway.{midway}
 use Rattle.chunk_laws.proofs.Counts.{used-bump}
 use Rattle.chunk_laws.proofs.Lists.{off-list}
+use Rattle.chunk_laws.proofs.Remarked.{Here, page-ok, page-below}
 use Rattle.chunk_laws.proofs.Remarked as remarked
 
-module _ (w : ℕ) (wide : 2 ≤ w) (narrow : w ≤ 255) (s : List ℕ) (B : Bytes s) (m : State) (W : WellFormed m) (few : m .size ≤ 4096)
-    (room : 8 + 72 * w + 4112 * m .size ≤ length s) (p c : ℕ) (k : ℕ → Bool) (is : m .page p ≡ slab c k) (rest : List ℕ) (on : m .lists c ≡ p ∷ rest) where
+module _ {w : ℕ} {s : List ℕ} {m : State} {p c : ℕ} {k : ℕ → Bool} (H : Here w s m p c k) (rest : List ℕ) (on : m .lists c ≡ p ∷ rest) where
+  open Here H using (wide, narrow, slice as B, well as W, few, room, is)
+
   abbrev P : ℕ
   P = m .size
 
@@ -64,14 +63,8 @@ module _ (w : ℕ) (wide : 2 ≤ w) (narrow : w ≤ 255) (s : List ℕ) (B : Byt
   clear : (i < chunks c) × (k i ≡ false)
   clear = lowest-clear c k (sym (open-slab c k) ∙ (rw is at (W .class-lists .holds c p listed)))
 
-  page-ok : ClassOk c k
-  page-ok = slab-ok (W .table) is
-
-  below : p < P
-  below = remarked.page-below m W few w wide narrow s B room p c k is
-
   in-use : own c ≤ i
-  in-use = ⊎-elim (λ (h : i < own c). absurd (clash (page-ok .own-set i h) (clear .1))) (λ (h : own c ≤ i). h) (lt? i (own c))
+  in-use = ⊎-elim (λ (h : i < own c). absurd (clash (page-ok H .own-set i h) (clear .1))) (λ (h : own c ≤ i). h) (lt? i (own c))
 
   -- the next state, by the list that class c has then
   abbrev n : List ℕ → State
@@ -99,31 +92,31 @@ module _ (w : ℕ) (wide : 2 ≤ w) (narrow : w ≤ 255) (s : List ℕ) (B : Byt
   unfolding stateImage asked
   own-record =
       let u : usedOf m c % 16777216 + 1 ≡ usedOf (n l) c =
-      omega (arith, state-fits W few .class c (omega (arith, page-ok .in-range)) .used, used-more, remarked.used-own m W few w wide narrow s B room p c k is i true (clear .0) l (n l .tally)) in
-      let t : shown m .total c ≡ shown (n l) .total c = sym (remarked.total-same m W few w wide narrow s B room p c k is i true (clear .0) l (n l .tally) c) in
+      omega (arith, state-fits W few .class c (omega (arith, page-ok H .in-range)) .used, used-more, remarked.used-own H i true (clear .0) l (n l .tally)) in
+      let t : shown m .total c ≡ shown (n l) .total c = sym (remarked.total-same H i true (clear .0) l (n l .tally) c) in
       let a : asked (m .tally c) ≡ n l .tally c = sym (upd-same (m .tally) c (asked (m .tally c))) in
       λ j. classRecord (stateImage (n l) .class c .first .0) (u j) (t j) (a j)
 
   -- ---- the lists
 
   last : (b : Bool) → hasClear c k′ ≡ b → lastFree (draw w s m) (mapWord w P p c) c i ≡ not b
-  last b h = remarked.last-free-told m W few w wide narrow s B room p c k is i (clear .1) ∙ ap not h
+  last b h = remarked.last-free-told H i (clear .1) ∙ ap not h
 
   stays : hasClear c k′ ≡ true → fullLeaves w (draw w s m) c p (lastFree (draw w s m) (mapWord w P p c) c i) ≡ paint w P (midway m (n l)) S
   unfolding fullLeaves pick
   stays h =
       rw (last true h)
-      (remarked.list-stays m W few w wide narrow s B room p c k is i true (clear .0) l (n l .tally) Wn (on ∙ rw h))
+      (remarked.list-stays H i true (clear .0) l (n l .tally) Wn (on ∙ rw h))
 
   leaves : hasClear c k′ ≡ false → fullLeaves w (draw w s m) c p (lastFree (draw w s m) (mapWord w P p c) c i) ≡ paint w P (midway m (n l)) S
   unfolding fullLeaves pick setAside
   leaves h =
       rw (
         last false h,
-        remarked.delisted-drawn m W few w wide narrow s B room p c k is listed,
-        links-paint w P wide J S p (classLinks c) below,
+        remarked.delisted-drawn H listed,
+        links-paint w P wide J S p (classLinks c) (page-below H),
       )
-      (remarked.lists-drawn m W few w wide narrow s B room p c k is i true (clear .0) l (n l .tally) Wn less (setLinks J p (classLinks c))
+      (remarked.lists-drawn H i true (clear .0) l (n l .tally) Wn less (setLinks J p (classLinks c))
       (λ d. ap (λ (x : List ℕ). upd (m .lists) c x d) (gone ∙ rw h)) aside (relinked .free-pages) (relinked .class) (relinked .map))
     where
       J : Image
@@ -141,19 +134,19 @@ module _ (w : ℕ) (wide : 2 ≤ w) (narrow : w ≤ 255) (s : List ℕ) (B : Byt
           rw (on, eq-eqb p p refl) (keep-every (others p) rest (λ q r. rw (ne-eqb q p (λ e. once .0 (rw (← e) r)))))
 
       off : Unlisted (m .runs) less p
-      off = remarked.less-unlisted m W few w wide narrow s B room p c k is listed
+      off = remarked.less-unlisted H listed
 
       aside : ShowsLinks P (m .page) (m .runs) less (setLinks J p (classLinks c))
       aside =
-          shows-written (remarked.less-scene m W few w wide narrow s B room p c k is listed) p 1 (remarked.delisted-shows m W few w wide narrow s B room p c k is listed)
+          shows-written (remarked.less-scene H listed) p 1 (remarked.delisted-shows H listed)
           (λ q a b. let e : q ≡ p = omega arith in rw e off)
           (upd (J .links) p (classLinks c)) (upd-out (J .links) p (classLinks c))
           (λ q a b.
           let e : q ≡ p = omega arith in
-          rw (e, upd-same (J .links) p (classLinks c), is) (sym (off-list (m .runs) less p c k (off .no-class c (page-ok .in-range)))))
+          rw (e, upd-same (J .links) p (classLinks c), is) (sym (off-list (m .runs) less p c k (off .no-class c (page-ok H .in-range)))))
 
   pub chunk-taken : chunkTaken w (draw w s m) P c p i ≡ draw w s (markChunk m c p rest k .after)
   unfolding chunkTaken countUsed markChunk
   chunk-taken =
-      remarked.remarked-drawn m W few w wide narrow s B room p c k is i true (clear .0) l (n l .tally) Wn chunkUsed own-record
+      remarked.remarked-drawn H i true (clear .0) l (n l .tally) Wn chunkUsed own-record
       (λ d e. upd-other (m .tally) c (asked (m .tally c)) d e) _ (⊎-elim stays leaves (bool? (hasClear c k′)))
