@@ -15,8 +15,8 @@ pub fn links_of(pool: &[u8], w: u8, p: usize) -> Links
     record_page::unpack_links(cells::get_word(pool, 2 + 9 * w as usize + 2 * p))
 }
 
-// The word that holds the links of page p.
-pub fn links_word(pool: &[u8], w: u8, p: usize) -> u64
+// The links of page p in their word: callers unpack them where a field is needed.
+pub fn packed_links(pool: &[u8], w: u8, p: usize) -> u64
     requires { ⌜ p ≤ 131072 ⌝ }
     ensures { λ r. ⌜ r ≡ word (now (pool .entry)) (linksPlace w p) ⌝ }
 {

@@ -146,6 +146,10 @@ module _ (w : ℕ) (s : List ℕ) (n p : ℕ) (B : Bytes s) (pages : n ≡ pages
         v : Fields
         v = fieldsOf w s
 
+        same : (b : Bool) → getD t j 0 ≡ getD t j 0 + pick b 0 0
+        same true = omega arith
+        same false = omega arith
+
         go : (k : ℕ) → kind v p ≡ k → (k ≤ 4) × (k ≡ 2 → Slab w s p) → getD (pageAdded w s t p (v .image .links p)) j 0 ≡ getD t j 0 + share v n j p
         go zero d K =
             rw d
@@ -162,17 +166,9 @@ module _ (w : ℕ) (s : List ℕ) (n p : ℕ) (B : Bytes s) (pages : n ≡ pages
         go (suc (suc (suc zero))) d K =
             let e = plain-share v n p h _ (page-is v n p h 3 d) (λ i. refl) refl 3 d refl j in
             rw (d, e) (same (eqb j 9))
-          where
-            same : (b : Bool) → getD t j 0 ≡ getD t j 0 + pick b 0 0
-            same true = omega arith
-            same false = omega arith
         go (suc (suc (suc (suc zero)))) d K =
             let e = plain-share v n p h _ (page-is v n p h 4 d) (λ i. refl) refl 4 d refl j in
             rw (d, e) (same (eqb j 9))
-          where
-            same : (b : Bool) → getD t j 0 ≡ getD t j 0 + pick b 0 0
-            same true = omega arith
-            same false = omega arith
         go (suc (suc (suc (suc (suc k))))) d K = absurd (omega arith)
 
 length-pageAdded : (w : ℕ) (s t : List ℕ) (p : ℕ) (l : Links) → length (pageAdded w s t p l) ≡ length t

@@ -24,7 +24,8 @@ pub const SECOND: u64 = 4294967296;
 
 pub const THIRD: u64 = 281474976710656;
 
-fn add(t: &mut [u64; 11], j: usize, x: u64)
+// Adds x to counter j.
+fn add_at(t: &mut [u64; 11], j: usize, x: u64)
     requires { ⌜ j < 11 ⌝ }
     ensures { λ _. ⌜ now (t .exit) ≡ addAt (now (t .entry)) j x ⌝ }
 {
@@ -81,8 +82,8 @@ fn add_class(pool: &[u8], w: u8, n: usize, p: usize, v: u64, t: &mut [u64; 11])
     let l = record_page::unpack_links(v);
     let c = l.class;
     let ones = ones_of(pool, w, n, p, c);
-    add(t, c as usize, class_weight(c, ones));
-    add(t, FAULTS, class_fault(c, ones, v));
+    add_at(t, c as usize, class_weight(c, ones));
+    add_at(t, FAULTS, class_fault(c, ones, v));
 }
 
 // The free run that begins with page p, with the links of the word v; pass_taken and pass_class likewise.
@@ -95,7 +96,7 @@ fn pass_free(pool: &[u8], w: u8, n: usize, p: usize, v: u64, t: &mut [u64; 11]) 
     }
     let l = record_page::unpack_links(v);
     let k = l.run as usize;
-    add(t, FREE, SECOND + k as u64);
+    add_at(t, FREE, SECOND + k as u64);
     p + k
 }
 
@@ -142,7 +143,7 @@ fn pass_next(pool: &[u8], w: u8, n: usize, p: usize, t: &mut [u64; 11]) -> usize
     requires { ⌜ (n ≡ pagesIn w (now pool)) × (p < n) × (n ≤ 4096) × Border (fieldsOf w (now pool)) n p ⌝ }
     ensures { λ r. ⌜ Steps (fieldsOf w (now (pool .entry))) n p r (now (t .entry)) (now (t .exit)) ⌝ }
 {
-    let v = validate_fields::links_word(pool, w, p);
+    let v = validate_fields::packed_links(pool, w, p);
     if v % 512 != 0 {
         return p;
     }

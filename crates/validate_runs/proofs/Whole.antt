@@ -20,7 +20,7 @@ use Rattle.rules.specs.Fields.{Fields, kind, class, run, next, prev, map}
 use Rattle.rules.specs.Rules.{kindAt, kindFrom, runFits, insideFree, endsFree, lastBack, freeRun, firstFree, endsTaken, takenRun, firstTaken, insideTaken, rule2At}
 use Rattle.rules.specs.Drawn.{links}
 use Rattle.rules.specs.Bytes.{imageOf, fieldsOf}
-use Rattle.validate_runs.specs.Whole.{plainAt, plainFrom, lastPlain, freeInside, freeRest, freeWhole, takenRest, takenWhole, Kept, Border}
+use Rattle.validate_runs.specs.Whole.{plainAt, plainFrom, begins, lastPlain, freeInside, freeRest, freeWhole, takenRest, takenWhole, Kept, Border}
 
 -- ---- rule 2 at a page of a run
 
@@ -132,6 +132,18 @@ module _ (w : ℕ) (s : List ℕ) where
       sym (pack-unpack-links (word s (linksPlace w j)) (word-small s (linksPlace w j) B) z) ∙ ap packLinks e ∙ q in
       pick-both _ _ (eq-eqb _ x y) (eq-eqb _ 0 m)
 
+  -- ---- the first page of a run
+
+  pub begins-says : (n p : ℕ) (l : Links) → begins w s n p l ≡ true → (l .class ≡ 0) × (map v p ≡ 0) × (0 < l .run) × (p + l .run ≤ n)
+  unfolding begins
+  begins-says n p l e =
+      let a = each-of _ e in
+      (eqb-true _ _ (a .0), eqb-true _ _ (a .1 .0), ltb-true 0 (l .run) (a .1 .1 .0), leb-true (p + l .run) n (a .1 .1 .1 .0))
+
+  must-begin : (n p : ℕ) (l : Links) → l .class ≡ 0 → map v p ≡ 0 → 0 < l .run → p + l .run ≤ n → begins w s n p l ≡ true
+  unfolding begins
+  must-begin n p l c m h b = all-of _ (eq-eqb _ 0 c & eq-eqb _ 0 m & lt-ltb 0 (l .run) h & le-leb (p + l .run) n b & tt)
+
   -- ---- a free run
 
   module _ (n p : ℕ) (few : n ≤ 65535) (z : v .spare p ≡ 0) (first : kind v p ≡ 1) where
@@ -141,9 +153,7 @@ module _ (w : ℕ) (s : List ℕ) where
     module _ (e : freeWhole w s n p (v .image .links p) ≡ true) where
       tests : (class v p ≡ 0) × (map v p ≡ 0) × (0 < k) × (p + k ≤ n)
       unfolding freeWhole
-      tests =
-          let a = each-of _ (both-true _ _ e .0) in
-          (eqb-true _ _ (a .0), eqb-true _ _ (a .1 .0), ltb-true 0 k (a .1 .1 .0), leb-true (p + k) n (a .1 .1 .1 .0))
+      tests = begins-says n p _ (both-true _ _ e .0)
 
       ends : endsFree v n (p + k) ≡ true
       unfolding freeWhole freeRest
@@ -267,8 +277,7 @@ module _ (w : ℕ) (s : List ℕ) where
       pub free-must : freeWhole w s n p (v .image .links p) ≡ true
       unfolding freeWhole freeRest freeInside
       free-must =
-          pick-both _ _ (all-of _ (eq-eqb _ 0 (says .0) & eq-eqb _ 0 (says .1) & lt-ltb 0 k (fit .0) & le-leb (p + k) n (fit .1) & tt))
-          (pick-both _ _ (says .3) (pick-both _ _ must-last must-inner))
+          pick-both _ _ (must-begin n p _ (says .0) (says .1) (fit .0) (fit .1)) (pick-both _ _ (says .3) (pick-both _ _ must-last must-inner))
 
   -- ---- a taken run
 
@@ -278,7 +287,8 @@ module _ (w : ℕ) (s : List ℕ) where
       unfolding takenWhole
       taken-tests =
           let a = each-of _ (both-true _ _ e .0) in
-          (eqb-true _ _ (a .0), eqb-true _ _ (a .1 .0), eqb-true _ _ (a .1 .1 .0), eqb-true _ _ (a .1 .1 .1 .0), ltb-true 0 (run v p) (a .1 .1 .1 .1 .0), leb-true (p + run v p) n (a .1 .1 .1 .1 .1 .0))
+          let b = begins-says n p _ (a .0) in
+          (b .0, b .1, eqb-true _ _ (a .1 .0), eqb-true _ _ (a .1 .1 .0), b .2, b .3)
 
       pub taken-ends : endsTaken v n (p + run v p) ≡ true
       unfolding takenWhole takenRest
@@ -357,7 +367,7 @@ module _ (w : ℕ) (s : List ℕ) where
       unfolding takenWhole takenRest
       taken-must =
           let t = taken-says in
-          pick-both _ _ (all-of _ (eq-eqb _ 0 (t .0) & eq-eqb _ 0 (t .1) & eq-eqb _ noPage (t .2) & eq-eqb _ noPage (t .3) & lt-ltb 0 (run v p) (taken-fit .0) & le-leb (p + run v p) n (taken-fit .1) & tt))
+          pick-both _ _ (all-of _ (must-begin n p _ (t .0) (t .1) (taken-fit .0) (taken-fit .1) & eq-eqb _ noPage (t .2) & eq-eqb _ noPage (t .3) & tt))
           (pick-both _ _ (t .5) must-taken)
 
 -- ---- where a run may begin

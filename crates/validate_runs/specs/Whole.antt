@@ -21,6 +21,10 @@ plainAt w s v p = pick (eqb (word s (linksPlace w p)) v) (eqb (map (fieldsOf w s
 unfoldable pub plainFrom : ℕ → List ℕ → ℕ → ℕ → ℕ → Bool
 plainFrom w s v p m = allBelow (λ i. plainAt w s v (p + i)) m
 
+-- page p, with the links l, can begin a run of the n pages: class and map are 0, the run has a page and ends among them
+unfoldable pub begins : ℕ → List ℕ → ℕ → ℕ → Links → Bool
+begins w s n p l = allOf (eqb (l .class) 0 ∷ eqb (map (fieldsOf w s) p) 0 ∷ ltb 0 (l .run) ∷ leb (p + l .run) n ∷ [])
+
 -- the last of the k free pages from p on leads back to p, where there are two or more
 unfoldable pub lastPlain : ℕ → List ℕ → ℕ → ℕ → Bool
 lastPlain w s p k = pick (ltb 1 k) (plainAt w s (2198989701120 + 512 * p) (p + k - 1)) true
@@ -32,9 +36,7 @@ unfoldable pub freeRest : ℕ → List ℕ → ℕ → ℕ → ℕ → Bool
 freeRest w s n p k = pick (endsFree (fieldsOf w s) n (p + k)) (freeInside w s p k) false
 
 unfoldable pub freeWhole : ℕ → List ℕ → ℕ → ℕ → Links → Bool
-freeWhole w s n p l =
-    pick (allOf (eqb (l .class) 0 ∷ eqb (map (fieldsOf w s) p) 0 ∷ ltb 0 (l .run) ∷ leb (p + l .run) n ∷ []))
-    (freeRest w s n p (l .run)) false
+freeWhole w s n p l = pick (begins w s n p l) (freeRest w s n p (l .run)) false
 
 unfoldable pub takenRest : ℕ → List ℕ → ℕ → ℕ → ℕ → Bool
 takenRest w s n p k =
@@ -42,10 +44,7 @@ takenRest w s n p k =
 
 unfoldable pub takenWhole : ℕ → List ℕ → ℕ → ℕ → Links → Bool
 takenWhole w s n p l =
-    pick (allOf (
-    eqb (l .class) 0 ∷ eqb (map (fieldsOf w s) p) 0 ∷ eqb (l .next .0) noPage ∷ eqb (l .prev .0) noPage ∷
-    ltb 0 (l .run) ∷ leb (p + l .run) n ∷ []))
-    (takenRest w s n p (l .run)) false
+    pick (allOf (begins w s n p l ∷ eqb (l .next .0) noPage ∷ eqb (l .prev .0) noPage ∷ [])) (takenRest w s n p (l .run)) false
 
 -- the k pages from p on keep rule 2, and those after the first are of kind `inner`
 pub record Kept (v : Fields) (n p k inner : ℕ) : Type 0 where

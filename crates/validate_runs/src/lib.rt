@@ -7,7 +7,7 @@ ghost use Prim.Native.Nat.{_+_, _≤_, _<_};
 ghost use Rattle.records.specs.Page.{unpackLinks};
 ghost use Rattle.rules.specs.Rules.{endsFree, endsTaken};
 ghost use Rattle.rules.specs.Bytes.{fieldsOf};
-ghost use Rattle.validate_runs.specs.Whole.{plainAt, plainFrom, lastPlain, freeInside, freeRest, freeWhole, takenRest, takenWhole};
+ghost use Rattle.validate_runs.specs.Whole.{plainAt, plainFrom, begins, lastPlain, freeInside, freeRest, freeWhole, takenRest, takenWhole};
 
 // The links of a page inside a free run, but for its last: next and previous none, the rest 0.
 const FREE_LINKS: u64 = 2199023255040;
@@ -21,7 +21,7 @@ fn plain_at(pool: &[u8], w: u8, p: usize, v: u64) -> bool
     requires { ⌜ p ≤ 131072 ⌝ }
     ensures { λ r. ⌜ r ≡ plainAt w (now (pool .entry)) v p ⌝ }
 {
-    let links = validate_fields::links_word(pool, w, p);
+    let links = validate_fields::packed_links(pool, w, p);
     let map = validate_fields::map_of(pool, w, p);
     branchless::both(links == v, map == 0)
 }
@@ -39,6 +39,17 @@ fn plain_from(pool: &[u8], w: u8, start: usize, count: usize, v: u64) -> bool
         i += 1;
     }
     true
+}
+
+// Whether a run within the n pages begins with page p, which has the links of the word v: what free and taken runs have in common.
+fn begins_run(pool: &[u8], w: u8, n: usize, p: usize, v: u64) -> bool
+    requires { ⌜ (n ≤ 65535) × (p < n) ⌝ }
+    ensures { λ r. ⌜ r ≡ begins w (now (pool .entry)) n p (unpackLinks v) ⌝ }
+{
+    let l = record_page::unpack_links(v);
+    let k = l.run as usize;
+    let map = validate_fields::map_of(pool, w, p);
+    branchless::all4(l.class == 0, map == 0, 0 < k, p + k <= n)
 }
 
 // Whether no free page stands at x.
@@ -93,10 +104,8 @@ pub fn free_whole(pool: &[u8], w: u8, n: usize, p: usize, v: u64) -> bool
     ensures { λ r. ⌜ r ≡ freeWhole w (now (pool .entry)) n p (unpackLinks v) ⌝ }
 {
     let l = record_page::unpack_links(v);
-    let k = l.run as usize;
-    let map = validate_fields::map_of(pool, w, p);
-    if branchless::all4(l.class == 0, map == 0, 0 < k, p + k <= n) {
-        free_rest(pool, w, n, p, k)
+    if begins_run(pool, w, n, p, v) {
+        free_rest(pool, w, n, p, l.run as usize)
     } else {
         false
     }
@@ -130,17 +139,9 @@ pub fn taken_whole(pool: &[u8], w: u8, n: usize, p: usize, v: u64) -> bool
     ensures { λ r. ⌜ r ≡ takenWhole w (now (pool .entry)) n p (unpackLinks v) ⌝ }
 {
     let l = record_page::unpack_links(v);
-    let k = l.run as usize;
-    let map = validate_fields::map_of(pool, w, p);
-    if branchless::all6(
-        l.class == 0,
-        map == 0,
-        l.next.0 == NO_PAGE,
-        l.prev.0 == NO_PAGE,
-        0 < k,
-        p + k <= n,
-    ) {
-        taken_rest(pool, w, n, p, k)
+    let begins = begins_run(pool, w, n, p, v);
+    if branchless::all3(begins, l.next.0 == NO_PAGE, l.prev.0 == NO_PAGE) {
+        taken_rest(pool, w, n, p, l.run as usize)
     } else {
         false
     }

@@ -15,17 +15,17 @@ unpack-links-requires c κs = search needs
 cast-k : tie.Need-cast-k
 cast-k c = search needs
 
-add-add : tie.Need-add-add
-add-add c = search needs
+add-add-at : tie.Need-add-add-at
+add-add-at c = search needs
 
-add-requires : tie.Need-add-requires
-add-requires c κs = search needs
+add-at-requires : tie.Need-add-at-requires
+add-at-requires c κs = search needs
 
 add-result : tie.Need-add-result
 add-result c = search needs
 
 returns-2 : tie.Need-returns-2
-returns-2 c = let u = c .before .before .before in let k = u .before in let s = k .before .before in let b = s .before in rw (u .unpack-links .ensures) (free-steps (b .pre .0) (λ i. s .shared-slice-known .given i .fits) _ _ _ (b .pre .1) (k .before .free-whole .ensures) (k .if1 .left) (rw (u .unpack-links .ensures) at (c .add .ensures)))
+returns-2 c = let u = c .before .before .before in let k = u .before in let s = k .before .before in let b = s .before in rw (u .unpack-links .ensures) (free-steps (b .pre .0) (λ i. s .shared-slice-known .given i .fits) _ _ _ (b .pre .1) (k .before .free-whole .ensures) (k .if1 .left) (rw (u .unpack-links .ensures) at (c .add-at .ensures)))
 
 pub pass-free-spec : {M : Type 1} → statement M
 pass-free-spec =
@@ -35,7 +35,7 @@ pass-free-spec =
     returns
     unpack-links-requires
     cast-k
-    add-add
-    add-requires
+    add-add-at
+    add-at-requires
     add-result
     returns-2)

@@ -3,17 +3,17 @@ use borrow.Author.Needs.{needs}
 use Rattle.validate_pages.proofs.pass_next.Statement.{statement}
 use Rattle.validate_pages.proofs.pass_next.Tie as tie
 
-links-word-requires : tie.Need-links-word-requires
-links-word-requires c κs = search needs
+packed-links-requires : tie.Need-packed-links-requires
+packed-links-requires c κs = search needs
 
 returns : tie.Need-returns
-returns c = let b = c .before .before .before in stays-spare (b .args .w) (b .args .pool .now) (b .args .n) (b .args .p) _ (b .pre .1) (c .before .links-word .ensures) _ _ (c .if1 .taken)
+returns c = let b = c .before .before .before in stays-spare (b .args .w) (b .args .pool .now) (b .args .n) (b .args .p) _ (b .pre .1) (c .before .packed-links .ensures) _ _ (c .if1 .taken)
 
 pass-kind-requires : tie.Need-pass-kind-requires
-pass-kind-requires c κs = let u = c .before in let b = u .before .before .before in (here (b .args .w) (b .args .pool .now) (b .args .n) (b .args .p) _ (b .pre .1) (u .before .links-word .ensures) (b .pre .0) (b .pre .2) (u .if1 .left), b .pre .3)
+pass-kind-requires c κs = let u = c .before in let b = u .before .before .before in (here (b .args .w) (b .args .pool .now) (b .args .n) (b .args .p) _ (b .pre .1) (u .before .packed-links .ensures) (b .pre .0) (b .pre .2) (u .if1 .left), b .pre .3)
 
 returns-2 : tie.Need-returns-2
 returns-2 c = search needs
 
 pub pass-next-spec : {M : Type 1} → statement M
-pass-next-spec = tie.close (tie.spec links-word-requires returns pass-kind-requires returns-2)
+pass-next-spec = tie.close (tie.spec packed-links-requires returns pass-kind-requires returns-2)

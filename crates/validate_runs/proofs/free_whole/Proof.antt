@@ -1,8 +1,7 @@
 use mathlib.Core.Path.{refl, sym, _∙_}
-use borrow.Author.Tests.{leb-true}
 use Rattle.base.proofs.Tests.{pick-on, pick-off}
-use Rattle.base.proofs.AllBelow.{each-of}
 use Rattle.validate_runs.specs.Whole.{freeWhole}
+use Rattle.validate_runs.proofs.Whole.{begins-says}
 use borrow.Author.Needs.{needs}
 use Rattle.validate_runs.proofs.free_whole.Statement.{statement}
 use Rattle.validate_runs.proofs.free_whole.Tie as tie
@@ -10,38 +9,24 @@ use Rattle.validate_runs.proofs.free_whole.Tie as tie
 unpack-links-requires : tie.Need-unpack-links-requires
 unpack-links-requires c κs = search needs
 
-cast-k : tie.Need-cast-k
-cast-k c = search needs
+begins-run-requires : tie.Need-begins-run-requires
+begins-run-requires c κs = search needs
 
-map-of-requires : tie.Need-map-of-requires
-map-of-requires c κs = search needs
-
-add-all4 : tie.Need-add-all4
-add-all4 c = search needs
-
-all4-requires : tie.Need-all4-requires
-all4-requires c κs = search needs
+cast-free-rest : tie.Need-cast-free-rest
+cast-free-rest c = search needs
 
 free-rest-requires : tie.Need-free-rest-requires
-free-rest-requires c κs = let a = each-of _ (sym (c .before .all4 .ensures) ∙ c .if1 .taken) in (search needs, leb-true _ _ (a .1 .1 .1 .0))
+free-rest-requires c κs = let u = c .before .before .before in let b = u .before .before in let a = begins-says (b .args .w) (b .args .pool .now) _ _ _ (sym (c .before .before .begins-run .ensures) ∙ c .before .if1 .taken) in (search needs, rw (u .unpack-links .ensures) (a .3))
 
 returns : tie.Need-returns
 unfolding freeWhole
-returns c = let m = c .before .before .before .before in let u = m .before .before .unpack-links .ensures in pick-on _ _ _ _ (rw (m .map-of .ensures, u) at (c .before .before .all4 .ensures)) (c .before .if1 .taken) (rw u at (c .free-rest .ensures))
+returns c = let s = c .before .before .before in let u = s .before in pick-on _ _ _ _ (s .begins-run .ensures) (c .before .before .if1 .taken) (rw (u .unpack-links .ensures) at (c .free-rest .ensures))
 
 returns-2 : tie.Need-returns-2
 unfolding freeWhole
-returns-2 c = let m = c .before .before .before in pick-off _ _ _ _ (rw (m .map-of .ensures, m .before .before .unpack-links .ensures) at (c .before .all4 .ensures)) (c .if1 .left) refl
+returns-2 c = pick-off _ _ _ _ (c .before .begins-run .ensures) (c .if1 .left) refl
 
 pub free-whole-spec : {M : Type 1} → statement M
 free-whole-spec =
     tie.close
-    (tie.spec
-    unpack-links-requires
-    cast-k
-    map-of-requires
-    add-all4
-    all4-requires
-    free-rest-requires
-    returns
-    returns-2)
+    (tie.spec unpack-links-requires begins-run-requires cast-free-rest free-rest-requires returns returns-2)

@@ -1,8 +1,8 @@
 use mathlib.Core.Path.{refl, sym, _∙_}
-use borrow.Author.Tests.{leb-true, ltb-true}
 use Rattle.base.proofs.Tests.{pick-on, pick-off}
 use Rattle.base.proofs.AllBelow.{each-of}
 use Rattle.validate_runs.specs.Whole.{takenWhole}
+use Rattle.validate_runs.proofs.Whole.{begins-says}
 use borrow.Author.Needs.{needs}
 use Rattle.validate_runs.proofs.taken_whole.Statement.{statement}
 use Rattle.validate_runs.proofs.taken_whole.Tie as tie
@@ -10,38 +10,34 @@ use Rattle.validate_runs.proofs.taken_whole.Tie as tie
 unpack-links-requires : tie.Need-unpack-links-requires
 unpack-links-requires c κs = search needs
 
-cast-k : tie.Need-cast-k
-cast-k c = search needs
+begins-run-requires : tie.Need-begins-run-requires
+begins-run-requires c κs = search needs
 
-map-of-requires : tie.Need-map-of-requires
-map-of-requires c κs = search needs
+all3-requires : tie.Need-all3-requires
+all3-requires c κs = search needs
 
-add-all6 : tie.Need-add-all6
-add-all6 c = search needs
-
-all6-requires : tie.Need-all6-requires
-all6-requires c κs = search needs
+cast-taken-rest : tie.Need-cast-taken-rest
+cast-taken-rest c = search needs
 
 taken-rest-requires : tie.Need-taken-rest-requires
-taken-rest-requires c κs = let a = each-of _ (sym (c .before .all6 .ensures) ∙ c .if1 .taken) in (search needs, ltb-true _ _ (a .1 .1 .1 .1 .0), leb-true _ _ (a .1 .1 .1 .1 .1 .0))
+taken-rest-requires c κs = let s = c .before .before .before .before .before in let u = s .before in let b = u .before .before in let t = each-of _ (sym (c .before .before .all3 .ensures) ∙ c .before .if1 .taken) in let a = begins-says (b .args .w) (b .args .pool .now) _ _ _ (sym (s .begins-run .ensures) ∙ t .0) in (search needs, rw (u .unpack-links .ensures) (a .2), rw (u .unpack-links .ensures) (a .3))
 
 returns : tie.Need-returns
 unfolding takenWhole
-returns c = let m = c .before .before .before .before .before .before in let u = m .before .before .unpack-links .ensures in pick-on _ _ _ _ (rw (m .map-of .ensures, u) at (c .before .before .all6 .ensures)) (c .before .if1 .taken) (rw u at (c .taken-rest .ensures))
+returns c = let s = c .before .before .before .before .before .before in let u = s .before .unpack-links .ensures in pick-on _ _ _ _ (rw (s .begins-run .ensures, u) at (c .before .before .before .all3 .ensures)) (c .before .before .if1 .taken) (rw u at (c .taken-rest .ensures))
 
 returns-2 : tie.Need-returns-2
 unfolding takenWhole
-returns-2 c = let m = c .before .before .before .before .before in pick-off _ _ _ _ (rw (m .map-of .ensures, m .before .before .unpack-links .ensures) at (c .before .all6 .ensures)) (c .if1 .left) refl
+returns-2 c = let s = c .before .before .before .before in pick-off _ _ _ _ (rw (s .begins-run .ensures, s .before .unpack-links .ensures) at (c .before .all3 .ensures)) (c .if1 .left) refl
 
 pub taken-whole-spec : {M : Type 1} → statement M
 taken-whole-spec =
     tie.close
     (tie.spec
     unpack-links-requires
-    cast-k
-    map-of-requires
-    add-all6
-    all6-requires
+    begins-run-requires
+    all3-requires
+    cast-taken-rest
     taken-rest-requires
     returns
     returns-2)

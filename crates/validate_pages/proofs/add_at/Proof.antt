@@ -1,7 +1,7 @@
 use Rattle.validate_pages.specs.Tally.{addAt}
 use borrow.Author.Needs.{needs}
-use Rattle.validate_pages.proofs.add.Statement.{statement}
-use Rattle.validate_pages.proofs.add.Tie as tie
+use Rattle.validate_pages.proofs.add_at.Statement.{statement}
+use Rattle.validate_pages.proofs.add_at.Tie as tie
 
 mul-wrapping-add-u64 : tie.Need-mul-wrapping-add-u64
 mul-wrapping-add-u64 c = search needs
@@ -22,8 +22,8 @@ returns : tie.Need-returns
 unfolding addAt
 returns c = rw (c .wrapping-add-u64 .ensures)
 
-pub add-spec : {M : Type 1} → statement M
-add-spec =
+pub add-at-spec : {M : Type 1} → statement M
+add-at-spec =
     tie.close
     (tie.spec
     mul-wrapping-add-u64
