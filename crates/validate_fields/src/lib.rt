@@ -1,5 +1,6 @@
 // The fields of a pool as the rules name them, read from its words. Reads are total: a page outside the pool shows zeros.
 use records::Links;
+use records::PageNumber;
 ghost use mathlib.Core.Path.{_≡_};
 ghost use Prim.Native.Nat.{_*_, _≤_, _<_};
 ghost use Rattle.words.specs.Word.{word};
@@ -8,24 +9,21 @@ ghost use Rattle.rules.specs.Fields.{kind, map};
 ghost use Rattle.rules.specs.Rules.{kindAt};
 ghost use Rattle.rules.specs.Bytes.{fieldsOf, mapBase};
 
-pub fn links_of(pool: &[u8], w: u8, p: usize) -> Links
-    requires { ⌜ p ≤ 131072 ⌝ }
-    ensures { λ r. ⌜ r ≡ fieldsOf w (now (pool .entry)) .image .links p ⌝ }
+pub fn links_of(pool: &[u8], w: u8, p: PageNumber) -> Links
+    ensures { λ r. ⌜ r ≡ fieldsOf w (now (pool .entry)) .image .links (p .0) ⌝ }
 {
-    record_page::unpack_links(cells::get_word(pool, 2 + 9 * w as usize + 2 * p))
+    record_page::get_links(pool, w, p)
 }
 
 // The links of page p in their word: callers unpack them where a field is needed.
-pub fn packed_links(pool: &[u8], w: u8, p: usize) -> u64
-    requires { ⌜ p ≤ 131072 ⌝ }
-    ensures { λ r. ⌜ r ≡ word (now (pool .entry)) (linksPlace w p) ⌝ }
+pub fn packed_links(pool: &[u8], w: u8, p: PageNumber) -> u64
+    ensures { λ r. ⌜ r ≡ word (now (pool .entry)) (linksPlace w (p .0)) ⌝ }
 {
-    cells::get_word(pool, 2 + 9 * w as usize + 2 * p)
+    cells::get_word(pool, records::place(2 + 9 * w as u16, 2, p.0))
 }
 
-pub fn kind_of(pool: &[u8], w: u8, p: usize) -> u8
-    requires { ⌜ p ≤ 131072 ⌝ }
-    ensures { λ r. ⌜ r ≡ kind (fieldsOf w (now (pool .entry))) p ⌝ }
+pub fn kind_of(pool: &[u8], w: u8, p: PageNumber) -> u8
+    ensures { λ r. ⌜ r ≡ kind (fieldsOf w (now (pool .entry))) (p .0) ⌝ }
 {
     let l = links_of(pool, w, p);
     l.kind
@@ -37,26 +35,27 @@ pub fn kind_at(pool: &[u8], w: u8, n: usize, want: u8, p: usize) -> bool
     ensures { λ r. ⌜ r ≡ kindAt (fieldsOf w (now (pool .entry))) n want p ⌝ }
 {
     if p < n {
-        return kind_of(pool, w, p) == want;
+        let q = p as u16;
+        return kind_of(pool, w, PageNumber(q)) == want;
     }
     false
 }
 
-pub fn map_of(pool: &[u8], w: u8, p: usize) -> u64
-    requires { ⌜ p ≤ 131072 ⌝ }
-    ensures { λ r. ⌜ r ≡ map (fieldsOf w (now (pool .entry))) p ⌝ }
+pub fn map_of(pool: &[u8], w: u8, p: PageNumber) -> u64
+    ensures { λ r. ⌜ r ≡ map (fieldsOf w (now (pool .entry))) (p .0) ⌝ }
 {
-    cells::get_word(pool, 1 + 9 * w as usize + 2 * p)
+    cells::get_word(pool, records::place(1 + 9 * w as u16, 2, p.0))
 }
 
 // The word at which the map of page p of n begins, where the page is of class c.
-pub fn map_at(w: u8, n: usize, p: usize, c: u8) -> usize
-    requires { ⌜ (n ≤ 65535) × (p ≤ 65535) ⌝ }
-    ensures { λ r. ⌜ (8 * r ≡ mapBase w n p c) × (r < 67108864) ⌝ }
+pub fn map_at(w: u8, n: usize, p: PageNumber, c: u8) -> usize
+    requires { ⌜ n ≤ 65535 ⌝ }
+    ensures { λ r. ⌜ (8 * r ≡ mapBase w n (p .0) c) × (r < 67108864) ⌝ }
 {
+    let q = p.0 as usize;
     if c < 3 {
-        1 + 9 * w as usize + 2 * n + 512 * p
+        1 + 9 * w as usize + 2 * n + 512 * q
     } else {
-        1 + 9 * w as usize + 2 * p
+        1 + 9 * w as usize + 2 * q
     }
 }

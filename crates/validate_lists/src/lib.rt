@@ -1,4 +1,5 @@
 // Rules 3 and 4 of a pool that was scanned: the free-run list and the nine class lists, each walked once.
+use records::PageNumber;
 use validate_pages::FAULTS;
 use validate_pages::FREE;
 ghost use mathlib.Core.Path.{_≡_};
@@ -15,7 +16,7 @@ pub fn free_list(pool: &[u8], w: u8, n: usize, t: &[u64; 11]) -> bool
 {
     let h = record_header::get_header(pool);
     let heads = validate_totals::middle(t, FREE) as usize;
-    validate_walk::follow(pool, w, n, 9, heads, h.first_run.0 as usize)
+    validate_walk::follow(pool, w, n, 0, heads, PageNumber(h.first_run.0))
 }
 
 // As many pages are on the list of class c as have a clear mark.
@@ -25,7 +26,7 @@ fn class_list(pool: &[u8], w: u8, n: usize, t: &[u64; 11], c: u8) -> bool
 {
     let r = record_class::get_class(pool, w, c);
     let open = validate_totals::high(t, c as usize) as usize;
-    validate_walk::follow(pool, w, n, c, open, r.first.0 as usize)
+    validate_walk::follow(pool, w, n, 1 + c, open, PageNumber(r.first.0))
 }
 
 fn class_lists(pool: &[u8], w: u8, n: usize, t: &[u64; 11]) -> bool

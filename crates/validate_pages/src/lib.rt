@@ -3,6 +3,7 @@ use records::CLASS_PAGE;
 use records::FIRST_FREE;
 use records::FIRST_TAKEN;
 use records::NO_PAGE;
+use records::PageNumber;
 ghost use mathlib.Core.Path.{_≡_};
 ghost use mathlib.Core.Bool.{true};
 ghost use Prim.Native.Nat.{ℕ, _≤_, _<_};
@@ -33,9 +34,9 @@ fn add_at(t: &mut [u64; 11], j: usize, x: u64)
 }
 
 // The set marks of page p of n, which has class c.
-pub fn ones_of(pool: &[u8], w: u8, n: usize, p: usize, c: u8) -> usize
-    requires { ⌜ (n ≡ pagesIn w (now pool)) × (p < n) × (n ≤ 65535) ⌝ }
-    ensures { λ r. ⌜ (r ≡ onesAt w (now (pool .entry)) p c) × (r ≤ 512) ⌝ }
+pub fn ones_of(pool: &[u8], w: u8, n: usize, p: PageNumber, c: u8) -> usize
+    requires { ⌜ (n ≡ pagesIn w (now pool)) × (p .0 < n) × (n ≤ 65535) ⌝ }
+    ensures { λ r. ⌜ (r ≡ onesAt w (now (pool .entry)) (p .0) c) × (r ≤ 512) ⌝ }
 {
     map_count::count_marks(pool, validate_fields::map_at(w, n, p, c), c)
 }
@@ -53,11 +54,11 @@ fn class_weight(c: u8, ones: usize) -> u64
 }
 
 // Whether the page is full and has links.
-fn strays_of(c: u8, ones: usize, next: u16, prev: u16) -> bool
+fn strays_of(c: u8, ones: usize, next: PageNumber, prev: PageNumber) -> bool
     requires { ⌜ c ≤ 8 ⌝ }
-    ensures { λ r. ⌜ r ≡ strays c ones next prev ⌝ }
+    ensures { λ r. ⌜ r ≡ strays c ones (next .0) (prev .0) ⌝ }
 {
-    let alone = branchless::both(next == NO_PAGE, prev == NO_PAGE);
+    let alone = branchless::both(next.0 == NO_PAGE, prev.0 == NO_PAGE);
     let chunks = classes::class_chunks(c);
     branchless::both(chunks as usize <= ones, !alone)
 }
@@ -70,14 +71,14 @@ fn class_fault(c: u8, ones: usize, v: u64) -> u64
     let l = record_page::unpack_links(v);
     let own = classes::own_count(c);
     let unused = branchless::one_if(ones <= own as usize);
-    let stray = branchless::one_if(strays_of(c, ones, l.next.0, l.prev.0));
+    let stray = branchless::one_if(strays_of(c, ones, PageNumber(l.next.0), PageNumber(l.prev.0)));
     unused + SECOND * stray
 }
 
 // The class page p, with the links of the word v.
-fn add_class(pool: &[u8], w: u8, n: usize, p: usize, v: u64, t: &mut [u64; 11])
-    requires { ⌜ (n ≡ pagesIn w (now pool)) × (p < n) × (n ≤ 65535) × (unpackLinks v .class ≤ 8) ⌝ }
-    ensures { λ _. ⌜ now (t .exit) ≡ classAdded (now (t .entry)) (unpackLinks v .class) (onesAt w (now (pool .entry)) p (unpackLinks v .class)) (unpackLinks v) ⌝ }
+fn add_class(pool: &[u8], w: u8, n: usize, p: PageNumber, v: u64, t: &mut [u64; 11])
+    requires { ⌜ (n ≡ pagesIn w (now pool)) × (p .0 < n) × (n ≤ 65535) × (unpackLinks v .class ≤ 8) ⌝ }
+    ensures { λ _. ⌜ now (t .exit) ≡ classAdded (now (t .entry)) (unpackLinks v .class) (onesAt w (now (pool .entry)) (p .0) (unpackLinks v .class)) (unpackLinks v) ⌝ }
 {
     let l = record_page::unpack_links(v);
     let c = l.class;
@@ -87,46 +88,46 @@ fn add_class(pool: &[u8], w: u8, n: usize, p: usize, v: u64, t: &mut [u64; 11])
 }
 
 // The free run that begins with page p, with the links of the word v; pass_taken and pass_class likewise.
-fn pass_free(pool: &[u8], w: u8, n: usize, p: usize, v: u64, t: &mut [u64; 11]) -> usize
-    requires { ⌜ Here w (now pool) n p (unpackLinks v) × (unpackLinks v .kind ≡ 1) ⌝ }
-    ensures { λ r. ⌜ Steps (fieldsOf w (now (pool .entry))) n p r (now (t .entry)) (now (t .exit)) ⌝ }
+fn pass_free(pool: &[u8], w: u8, n: usize, p: PageNumber, v: u64, t: &mut [u64; 11]) -> usize
+    requires { ⌜ Here w (now pool) n (p .0) (unpackLinks v) × (unpackLinks v .kind ≡ 1) ⌝ }
+    ensures { λ r. ⌜ Steps (fieldsOf w (now (pool .entry))) n (p .0) r (now (t .entry)) (now (t .exit)) ⌝ }
 {
     if !validate_runs::free_whole(pool, w, n, p, v) {
-        return p;
+        return p.0 as usize;
     }
     let l = record_page::unpack_links(v);
     let k = l.run as usize;
     add_at(t, FREE, SECOND + k as u64);
-    p + k
+    p.0 as usize + k
 }
 
 // Nothing of a taken run is counted.
-fn pass_taken(pool: &[u8], w: u8, n: usize, p: usize, v: u64, t: &mut [u64; 11]) -> usize
-    requires { ⌜ Here w (now pool) n p (unpackLinks v) × (unpackLinks v .kind ≡ 3) ⌝ }
-    ensures { λ r. ⌜ Steps (fieldsOf w (now (pool .entry))) n p r (now (t .entry)) (now (t .exit)) ⌝ }
+fn pass_taken(pool: &[u8], w: u8, n: usize, p: PageNumber, v: u64, t: &mut [u64; 11]) -> usize
+    requires { ⌜ Here w (now pool) n (p .0) (unpackLinks v) × (unpackLinks v .kind ≡ 3) ⌝ }
+    ensures { λ r. ⌜ Steps (fieldsOf w (now (pool .entry))) n (p .0) r (now (t .entry)) (now (t .exit)) ⌝ }
 {
     if !validate_runs::taken_whole(pool, w, n, p, v) {
-        return p;
+        return p.0 as usize;
     }
     let l = record_page::unpack_links(v);
-    p + l.run as usize
+    p.0 as usize + l.run as usize
 }
 
-fn pass_class(pool: &[u8], w: u8, n: usize, p: usize, v: u64, t: &mut [u64; 11]) -> usize
-    requires { ⌜ Here w (now pool) n p (unpackLinks v) × (unpackLinks v .kind ≡ 2) ⌝ }
-    ensures { λ r. ⌜ Steps (fieldsOf w (now (pool .entry))) n p r (now (t .entry)) (now (t .exit)) ⌝ }
+fn pass_class(pool: &[u8], w: u8, n: usize, p: PageNumber, v: u64, t: &mut [u64; 11]) -> usize
+    requires { ⌜ Here w (now pool) n (p .0) (unpackLinks v) × (unpackLinks v .kind ≡ 2) ⌝ }
+    ensures { λ r. ⌜ Steps (fieldsOf w (now (pool .entry))) n (p .0) r (now (t .entry)) (now (t .exit)) ⌝ }
 {
     if !validate_slabs::class_page(pool, w, n, p) {
-        return p;
+        return p.0 as usize;
     }
     add_class(pool, w, n, p, v, t);
-    p + 1
+    p.0 as usize + 1
 }
 
 // By the kind of page p. No page inside a run is met here, since runs are passed whole.
-fn pass_kind(pool: &[u8], w: u8, n: usize, p: usize, v: u64, t: &mut [u64; 11]) -> usize
-    requires { ⌜ Here w (now pool) n p (unpackLinks v) × Border (fieldsOf w (now pool)) n p ⌝ }
-    ensures { λ r. ⌜ Steps (fieldsOf w (now (pool .entry))) n p r (now (t .entry)) (now (t .exit)) ⌝ }
+fn pass_kind(pool: &[u8], w: u8, n: usize, p: PageNumber, v: u64, t: &mut [u64; 11]) -> usize
+    requires { ⌜ Here w (now pool) n (p .0) (unpackLinks v) × Border (fieldsOf w (now pool)) n (p .0) ⌝ }
+    ensures { λ r. ⌜ Steps (fieldsOf w (now (pool .entry))) n (p .0) r (now (t .entry)) (now (t .exit)) ⌝ }
 {
     let l = record_page::unpack_links(v);
     let kind = l.kind;
@@ -134,18 +135,18 @@ fn pass_kind(pool: &[u8], w: u8, n: usize, p: usize, v: u64, t: &mut [u64; 11]) 
         FIRST_FREE => pass_free(pool, w, n, p, v, t),
         CLASS_PAGE => pass_class(pool, w, n, p, v, t),
         FIRST_TAKEN => pass_taken(pool, w, n, p, v, t),
-        _ => p,
+        _ => p.0 as usize,
     }
 }
 
 // Passes the run or the class page that begins with page p, and counts it: the page after it, or p where rule 2 is broken.
-fn pass_next(pool: &[u8], w: u8, n: usize, p: usize, t: &mut [u64; 11]) -> usize
-    requires { ⌜ (n ≡ pagesIn w (now pool)) × (p < n) × (n ≤ 4096) × Border (fieldsOf w (now pool)) n p ⌝ }
-    ensures { λ r. ⌜ Steps (fieldsOf w (now (pool .entry))) n p r (now (t .entry)) (now (t .exit)) ⌝ }
+fn pass_next(pool: &[u8], w: u8, n: usize, p: PageNumber, t: &mut [u64; 11]) -> usize
+    requires { ⌜ (n ≡ pagesIn w (now pool)) × (p .0 < n) × (n ≤ 4096) × Border (fieldsOf w (now pool)) n (p .0) ⌝ }
+    ensures { λ r. ⌜ Steps (fieldsOf w (now (pool .entry))) n (p .0) r (now (t .entry)) (now (t .exit)) ⌝ }
 {
     let v = validate_fields::packed_links(pool, w, p);
     if v % 512 != 0 {
-        return p;
+        return p.0 as usize;
     }
     pass_kind(pool, w, n, p, v, t)
 }
@@ -157,7 +158,8 @@ pub fn scan(pool: &[u8], w: u8, n: usize, t: &mut [u64; 11]) -> bool
 {
     let mut p = 0;
     while p < n {
-        let q = pass_next(pool, w, n, p, t);
+        let at = p as u16;
+        let q = pass_next(pool, w, n, PageNumber(at), t);
         if q == p {
             return false;
         }

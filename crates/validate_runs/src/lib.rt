@@ -2,6 +2,7 @@
 use records::FIRST_FREE;
 use records::INSIDE_TAKEN;
 use records::NO_PAGE;
+use records::PageNumber;
 ghost use mathlib.Core.Path.{_≡_};
 ghost use Prim.Native.Nat.{_+_, _≤_, _<_};
 ghost use Rattle.records.specs.Page.{unpackLinks};
@@ -16,13 +17,13 @@ const LAST_LINKS: u64 = 2198989701120;
 // Of a page inside a taken run: kind 4, next and previous none, the rest 0.
 const TAKEN_LINKS: u64 = 9223374235878030848;
 
-// Whether page p has the links of the word v and no map.
-fn plain_at(pool: &[u8], w: u8, p: usize, v: u64) -> bool
-    requires { ⌜ p ≤ 131072 ⌝ }
-    ensures { λ r. ⌜ r ≡ plainAt w (now (pool .entry)) v p ⌝ }
+// Whether the page at this place has the links of the word v and no map.
+fn plain_at(pool: &[u8], w: u8, at: usize, v: u64) -> bool
+    requires { ⌜ at ≤ 65535 ⌝ }
+    ensures { λ r. ⌜ r ≡ plainAt w (now (pool .entry)) v at ⌝ }
 {
-    let links = validate_fields::packed_links(pool, w, p);
-    let map = validate_fields::map_of(pool, w, p);
+    let links = cells::get_word(pool, 2 + 9 * w as usize + 2 * at);
+    let map = cells::get_word(pool, 1 + 9 * w as usize + 2 * at);
     branchless::both(links == v, map == 0)
 }
 
@@ -42,14 +43,13 @@ fn plain_from(pool: &[u8], w: u8, start: usize, count: usize, v: u64) -> bool
 }
 
 // Whether a run within the n pages begins with page p, which has the links of the word v: what free and taken runs have in common.
-fn begins_run(pool: &[u8], w: u8, n: usize, p: usize, v: u64) -> bool
-    requires { ⌜ (n ≤ 65535) × (p < n) ⌝ }
-    ensures { λ r. ⌜ r ≡ begins w (now (pool .entry)) n p (unpackLinks v) ⌝ }
+fn begins_run(pool: &[u8], w: u8, n: usize, p: PageNumber, v: u64) -> bool
+    ensures { λ r. ⌜ r ≡ begins w (now (pool .entry)) n (p .0) (unpackLinks v) ⌝ }
 {
     let l = record_page::unpack_links(v);
     let k = l.run as usize;
     let map = validate_fields::map_of(pool, w, p);
-    branchless::all4(l.class == 0, map == 0, 0 < k, p + k <= n)
+    branchless::all4(l.class == 0, map == 0, 0 < k, p.0 as usize + k <= n)
 }
 
 // Whether no free page stands at x.
@@ -58,40 +58,48 @@ fn ends_free(pool: &[u8], w: u8, n: usize, x: usize) -> bool
     ensures { λ r. ⌜ r ≡ endsFree (fieldsOf w (now (pool .entry))) n x ⌝ }
 {
     if x < n {
-        return FIRST_FREE < validate_fields::kind_of(pool, w, x);
+        let q = x as u16;
+        return FIRST_FREE < validate_fields::kind_of(pool, w, PageNumber(q));
     }
     true
 }
 
 // Whether the last of the k free pages from p on leads back to p, where there are two or more.
-fn last_plain(pool: &[u8], w: u8, p: usize, k: usize) -> bool
-    requires { ⌜ (p ≤ 65535) × (k ≤ 65535) ⌝ }
-    ensures { λ r. ⌜ r ≡ lastPlain w (now (pool .entry)) p k ⌝ }
+fn last_plain(pool: &[u8], w: u8, p: PageNumber, k: usize) -> bool
+    requires { ⌜ p .0 + k ≤ 65535 ⌝ }
+    ensures { λ r. ⌜ r ≡ lastPlain w (now (pool .entry)) (p .0) k ⌝ }
 {
     if 1 < k {
-        return plain_at(pool, w, p + k - 1, LAST_LINKS + 512 * p as u64);
+        let last = p.0 as usize + k - 1;
+        return plain_at(pool, w, last, LAST_LINKS + 512 * p.0 as u64);
     }
     true
 }
 
 // The pages after the first.
-fn free_inside(pool: &[u8], w: u8, p: usize, k: usize) -> bool
-    requires { ⌜ p + k ≤ 65535 ⌝ }
-    ensures { λ r. ⌜ r ≡ freeInside w (now (pool .entry)) p k ⌝ }
+fn free_inside(pool: &[u8], w: u8, p: PageNumber, k: usize) -> bool
+    requires { ⌜ p .0 + k ≤ 65535 ⌝ }
+    ensures { λ r. ⌜ r ≡ freeInside w (now (pool .entry)) (p .0) k ⌝ }
 {
     if last_plain(pool, w, p, k) {
-        plain_from(pool, w, p + 1, branchless::minus(k, 2), FREE_LINKS)
+        plain_from(
+            pool,
+            w,
+            p.0 as usize + 1,
+            branchless::minus(k, 2),
+            FREE_LINKS,
+        )
     } else {
         false
     }
 }
 
 // And the page after the run.
-fn free_rest(pool: &[u8], w: u8, n: usize, p: usize, k: usize) -> bool
-    requires { ⌜ (n ≤ 65535) × (p + k ≤ n) ⌝ }
-    ensures { λ r. ⌜ r ≡ freeRest w (now (pool .entry)) n p k ⌝ }
+fn free_rest(pool: &[u8], w: u8, n: usize, p: PageNumber, k: usize) -> bool
+    requires { ⌜ (n ≤ 65535) × (p .0 + k ≤ n) ⌝ }
+    ensures { λ r. ⌜ r ≡ freeRest w (now (pool .entry)) n (p .0) k ⌝ }
 {
-    if ends_free(pool, w, n, p + k) {
+    if ends_free(pool, w, n, p.0 as usize + k) {
         free_inside(pool, w, p, k)
     } else {
         false
@@ -99,9 +107,9 @@ fn free_rest(pool: &[u8], w: u8, n: usize, p: usize, k: usize) -> bool
 }
 
 // Whether the free run that page p begins, with the links of the word v, keeps rule 2.
-pub fn free_whole(pool: &[u8], w: u8, n: usize, p: usize, v: u64) -> bool
-    requires { ⌜ (n ≤ 65535) × (p < n) ⌝ }
-    ensures { λ r. ⌜ r ≡ freeWhole w (now (pool .entry)) n p (unpackLinks v) ⌝ }
+pub fn free_whole(pool: &[u8], w: u8, n: usize, p: PageNumber, v: u64) -> bool
+    requires { ⌜ n ≤ 65535 ⌝ }
+    ensures { λ r. ⌜ r ≡ freeWhole w (now (pool .entry)) n (p .0) (unpackLinks v) ⌝ }
 {
     let l = record_page::unpack_links(v);
     if begins_run(pool, w, n, p, v) {
@@ -117,26 +125,27 @@ fn ends_taken(pool: &[u8], w: u8, n: usize, x: usize) -> bool
     ensures { λ r. ⌜ r ≡ endsTaken (fieldsOf w (now (pool .entry))) n x ⌝ }
 {
     if x < n {
-        return validate_fields::kind_of(pool, w, x) != INSIDE_TAKEN;
+        let q = x as u16;
+        return validate_fields::kind_of(pool, w, PageNumber(q)) != INSIDE_TAKEN;
     }
     true
 }
 
-fn taken_rest(pool: &[u8], w: u8, n: usize, p: usize, k: usize) -> bool
-    requires { ⌜ (n ≤ 65535) × (0 < k) × (p + k ≤ n) ⌝ }
-    ensures { λ r. ⌜ r ≡ takenRest w (now (pool .entry)) n p k ⌝ }
+fn taken_rest(pool: &[u8], w: u8, n: usize, p: PageNumber, k: usize) -> bool
+    requires { ⌜ (n ≤ 65535) × (0 < k) × (p .0 + k ≤ n) ⌝ }
+    ensures { λ r. ⌜ r ≡ takenRest w (now (pool .entry)) n (p .0) k ⌝ }
 {
-    if ends_taken(pool, w, n, p + k) {
-        plain_from(pool, w, p + 1, k - 1, TAKEN_LINKS)
+    if ends_taken(pool, w, n, p.0 as usize + k) {
+        plain_from(pool, w, p.0 as usize + 1, k - 1, TAKEN_LINKS)
     } else {
         false
     }
 }
 
 // Whether the taken run that page p begins, with the links of the word v, keeps rule 2.
-pub fn taken_whole(pool: &[u8], w: u8, n: usize, p: usize, v: u64) -> bool
-    requires { ⌜ (n ≤ 65535) × (p < n) ⌝ }
-    ensures { λ r. ⌜ r ≡ takenWhole w (now (pool .entry)) n p (unpackLinks v) ⌝ }
+pub fn taken_whole(pool: &[u8], w: u8, n: usize, p: PageNumber, v: u64) -> bool
+    requires { ⌜ n ≤ 65535 ⌝ }
+    ensures { λ r. ⌜ r ≡ takenWhole w (now (pool .entry)) n (p .0) (unpackLinks v) ⌝ }
 {
     let l = record_page::unpack_links(v);
     let begins = begins_run(pool, w, n, p, v);

@@ -1,4 +1,5 @@
 // Rule 2 for class pages.
+use records::PageNumber;
 ghost use mathlib.Core.Path.{_≡_};
 ghost use Prim.Native.Nat.{_≤_, _<_};
 ghost use Rattle.base.specs.Tests.{allBelow};
@@ -8,18 +9,18 @@ ghost use Rattle.rules.specs.Bytes.{pagesIn, markAt, fieldsOf};
 ghost use Rattle.validate_slabs.specs.Holds.{mapHolds};
 
 // Whether the map's own chunks are marked: they have the top bits of its first word.
-fn own_marked(pool: &[u8], w: u8, n: usize, p: usize, c: u8) -> bool
-    requires { ⌜ (n ≡ pagesIn w (now pool)) × (p < n) × (n ≤ 65535) ⌝ }
-    ensures { λ r. ⌜ r ≡ allBelow (markAt w (now (pool .entry)) p c) (own c) ⌝ }
+fn own_marked(pool: &[u8], w: u8, n: usize, p: PageNumber, c: u8) -> bool
+    requires { ⌜ (n ≡ pagesIn w (now pool)) × (p .0 < n) × (n ≤ 65535) ⌝ }
+    ensures { λ r. ⌜ r ≡ allBelow (markAt w (now (pool .entry)) (p .0) c) (own c) ⌝ }
 {
     let k = validate_fields::map_at(w, n, p, c);
     classes::own_word(c) <= cells::get_word_in(pool, k)
 }
 
 // A map in the page: its own chunks are marked, and the map field is 0.
-fn paged_fits(pool: &[u8], w: u8, n: usize, p: usize, c: u8) -> bool
-    requires { ⌜ (n ≡ pagesIn w (now pool)) × (p < n) × (n ≤ 65535) × (c < 3) ⌝ }
-    ensures { λ r. ⌜ r ≡ mapHolds w (now (pool .entry)) p c ⌝ }
+fn paged_fits(pool: &[u8], w: u8, n: usize, p: PageNumber, c: u8) -> bool
+    requires { ⌜ (n ≡ pagesIn w (now pool)) × (p .0 < n) × (n ≤ 65535) × (c < 3) ⌝ }
+    ensures { λ r. ⌜ r ≡ mapHolds w (now (pool .entry)) (p .0) c ⌝ }
 {
     let marked = own_marked(pool, w, n, p, c);
     let map = validate_fields::map_of(pool, w, p);
@@ -35,16 +36,16 @@ fn unused_clear(map: u64, c: u8) -> bool
     map % (9223372036854775808 >> (n - 1)) == 0
 }
 
-fn recorded_fits(pool: &[u8], w: u8, p: usize, c: u8) -> bool
-    requires { ⌜ (p ≤ 65535) × (3 ≤ c) ⌝ }
-    ensures { λ r. ⌜ r ≡ mapHolds w (now (pool .entry)) p c ⌝ }
+fn recorded_fits(pool: &[u8], w: u8, p: PageNumber, c: u8) -> bool
+    requires { ⌜ 3 ≤ c ⌝ }
+    ensures { λ r. ⌜ r ≡ mapHolds w (now (pool .entry)) (p .0) c ⌝ }
 {
     unused_clear(validate_fields::map_of(pool, w, p), c)
 }
 
-fn map_holds(pool: &[u8], w: u8, n: usize, p: usize, c: u8) -> bool
-    requires { ⌜ (n ≡ pagesIn w (now pool)) × (p < n) × (n ≤ 65535) ⌝ }
-    ensures { λ r. ⌜ r ≡ mapHolds w (now (pool .entry)) p c ⌝ }
+fn map_holds(pool: &[u8], w: u8, n: usize, p: PageNumber, c: u8) -> bool
+    requires { ⌜ (n ≡ pagesIn w (now pool)) × (p .0 < n) × (n ≤ 65535) ⌝ }
+    ensures { λ r. ⌜ r ≡ mapHolds w (now (pool .entry)) (p .0) c ⌝ }
 {
     if c < 3 {
         paged_fits(pool, w, n, p, c)
@@ -54,9 +55,9 @@ fn map_holds(pool: &[u8], w: u8, n: usize, p: usize, c: u8) -> bool
 }
 
 // Rule 2 at page p of n, which is a class page.
-pub fn class_page(pool: &[u8], w: u8, n: usize, p: usize) -> bool
-    requires { ⌜ (n ≡ pagesIn w (now pool)) × (p < n) × (n ≤ 65535) ⌝ }
-    ensures { λ r. ⌜ r ≡ classPage (fieldsOf w (now (pool .entry))) p ⌝ }
+pub fn class_page(pool: &[u8], w: u8, n: usize, p: PageNumber) -> bool
+    requires { ⌜ (n ≡ pagesIn w (now pool)) × (p .0 < n) × (n ≤ 65535) ⌝ }
+    ensures { λ r. ⌜ r ≡ classPage (fieldsOf w (now (pool .entry))) (p .0) ⌝ }
 {
     let l = validate_fields::links_of(pool, w, p);
     let c = l.class;

@@ -3,10 +3,10 @@ use mathlib.Core.Path.{_≡_, refl, sym, ap, _∙_}
 use mathlib.Core.Logic.{_⊎_, inl, inr, _≢_}
 use mathlib.Core.Bool.{Bool, true, false, _&&_, not}
 use mathlib.Core.List.{List}
-use Prim.Native.Nat.{ℕ, zero, suc, _+_, _*_, _/_, _≤_, _<_}
+use Prim.Native.Nat.{ℕ, zero, suc, _+_, _-_, _*_, _/_, _≤_, _<_}
 use native.Mathlib.Omega.{arith}
 use lib.Dec.{eqb, ltb}
-use borrow.Author.Tests.{lt-ltb, le-ltb, eq-eqb, ne-eqb}
+use borrow.Author.Tests.{le-ltb, eq-eqb, ne-eqb}
 use Rattle.base.specs.Tests.{pick}
 use Rattle.base.proofs.Cases.{eq?}
 use Rattle.words.specs.Word.{Bytes}
@@ -87,11 +87,11 @@ pub open-past : (v : Fields) (n c p : ℕ) → n ≤ p → false ≡ openAt v n 
 unfolding openAt pageAt isOpen pick
 open-past v n c p h = rw (le-ltb p n h)
 
-module _ (v : Fields) (n c p : ℕ) (r : Bool) where
-  pub class-on : c < 9 → r ≡ openAt v n c p → r ≡ belongs v n c p
+module _ (v : Fields) (n list p : ℕ) (r : Bool) where
+  pub run-on : list ≡ 0 → r ≡ isHead v n p → r ≡ belongs v n list p
   unfolding belongs pick
-  class-on h e = rw (lt-ltb c 9 h) e
+  run-on h e = rw h e
 
-  pub run-on : 9 ≤ c → r ≡ isHead v n p → r ≡ belongs v n c p
+  pub class-on : list ≢ 0 → r ≡ openAt v n (list - 1) p → r ≡ belongs v n list p
   unfolding belongs pick
-  run-on h e = rw (le-ltb c 9 h) e
+  class-on h e = rw (ne-eqb list 0 h) e

@@ -1,11 +1,11 @@
--- The ten lists of a pool by number: those of the classes, and after them the free-run list.
-use Prim.Native.Nat.{ℕ}
+-- Which pages belong on the ten lists, which are numbered as in `lists`.
+use Prim.Native.Nat.{ℕ, _-_}
 use mathlib.Core.Bool.{Bool}
-use lib.Dec.{ltb}
+use lib.Dec.{eqb}
 use Rattle.base.specs.Tests.{pick}
 use Rattle.rules.specs.Fields.{Fields}
 use Rattle.rules.specs.Read.{isHead, openAt}
 
--- which pages belong on list c
+-- first pages of free runs on list 0, pages of class c with a clear mark on list 1 + c
 unfoldable pub belongs : Fields → ℕ → ℕ → ℕ → Bool
-belongs v n c = pick (ltb c 9) (openAt v n c) (isHead v n)
+belongs v n list = pick (eqb list 0) (isHead v n) (openAt v n (list - 1))

@@ -2,6 +2,7 @@
 use records::CLASS_PAGE;
 use records::FIRST_FREE;
 use records::NO_PAGE;
+use records::PageNumber;
 ghost use mathlib.Core.Path.{_≡_};
 ghost use mathlib.Core.Bool.{true, false, not};
 ghost use Prim.Native.Nat.{_/_, _≤_, _<_};
@@ -15,46 +16,41 @@ ghost use Rattle.rules.specs.Bytes.{pagesIn, mapBase, fieldsOf};
 ghost use Rattle.map_occupancy.specs.Occupancy.{isFull};
 ghost use Rattle.validate_walk.specs.Walk.{belongs};
 
-// No page, as a number of pages.
-const NONE: usize = NO_PAGE as usize;
-
-fn next_of(pool: &[u8], w: u8, p: usize) -> usize
-    requires { ⌜ p ≤ 65535 ⌝ }
-    ensures { λ r. ⌜ (r ≡ next (fieldsOf w (now (pool .entry))) p) × (r ≤ 65535) ⌝ }
+fn next_of(pool: &[u8], w: u8, p: PageNumber) -> PageNumber
+    ensures { λ r. ⌜ r .0 ≡ next (fieldsOf w (now (pool .entry))) (p .0) ⌝ }
 {
     let l = validate_fields::links_of(pool, w, p);
-    l.next.0 as usize
+    PageNumber(l.next.0)
 }
 
-fn leads_back(pool: &[u8], w: u8, p: usize, before: usize) -> bool
-    requires { ⌜ p ≤ 65535 ⌝ }
-    ensures { λ r. ⌜ r ≡ eqb (prev (fieldsOf w (now (pool .entry))) p) before ⌝ }
+fn leads_back(pool: &[u8], w: u8, p: PageNumber, before: PageNumber) -> bool
+    ensures { λ r. ⌜ r ≡ eqb (prev (fieldsOf w (now (pool .entry))) (p .0)) (before .0) ⌝ }
 {
     let l = validate_fields::links_of(pool, w, p);
-    l.prev.0 as usize == before
+    l.prev.0 == before.0
 }
 
 // Whether p is the first page of a free run.
-fn is_head(pool: &[u8], w: u8, n: usize, p: usize) -> bool
+fn is_head(pool: &[u8], w: u8, n: usize, p: PageNumber) -> bool
     requires { ⌜ n ≤ 65535 ⌝ }
-    ensures { λ r. ⌜ r ≡ isHead (fieldsOf w (now (pool .entry))) n p ⌝ }
+    ensures { λ r. ⌜ r ≡ isHead (fieldsOf w (now (pool .entry))) n (p .0) ⌝ }
 {
-    if p < n {
+    if (p.0 as usize) < n {
         return validate_fields::kind_of(pool, w, p) == FIRST_FREE;
     }
     false
 }
 
-fn not_full(pool: &[u8], w: u8, n: usize, c: u8, p: usize) -> bool
-    requires { ⌜ (p < n) × (n ≤ 65535) ⌝ }
-    ensures { λ r. ⌜ r ≡ not (isFull (now (pool .entry)) (mapBase w n p c / 8) c) ⌝ }
+fn not_full(pool: &[u8], w: u8, n: usize, c: u8, p: PageNumber) -> bool
+    requires { ⌜ (p .0 < n) × (n ≤ 65535) ⌝ }
+    ensures { λ r. ⌜ r ≡ not (isFull (now (pool .entry)) (mapBase w n (p .0) c / 8) c) ⌝ }
 {
     !map_occupancy::is_full(pool, validate_fields::map_at(w, n, p, c), c)
 }
 
-fn open_inside(pool: &[u8], w: u8, n: usize, c: u8, p: usize) -> bool
-    requires { ⌜ (p < n) × (n ≤ 65535) ⌝ }
-    ensures { λ r. ⌜ r ≡ pick (pick (eqb (kind (fieldsOf w (now (pool .entry))) p) 2) (eqb (class (fieldsOf w (now (pool .entry))) p) c) false) (not (isFull (now (pool .entry)) (mapBase w n p c / 8) c)) false ⌝ }
+fn open_inside(pool: &[u8], w: u8, n: usize, c: u8, p: PageNumber) -> bool
+    requires { ⌜ (p .0 < n) × (n ≤ 65535) ⌝ }
+    ensures { λ r. ⌜ r ≡ pick (pick (eqb (kind (fieldsOf w (now (pool .entry))) (p .0)) 2) (eqb (class (fieldsOf w (now (pool .entry))) (p .0)) c) false) (not (isFull (now (pool .entry)) (mapBase w n (p .0) c / 8) c)) false ⌝ }
 {
     let l = validate_fields::links_of(pool, w, p);
     if branchless::both(l.kind == CLASS_PAGE, l.class == c) {
@@ -65,36 +61,36 @@ fn open_inside(pool: &[u8], w: u8, n: usize, c: u8, p: usize) -> bool
 }
 
 // Whether p is a page of class c with a clear mark.
-fn is_open(pool: &[u8], w: u8, n: usize, c: u8, p: usize) -> bool
+fn is_open(pool: &[u8], w: u8, n: usize, c: u8, p: PageNumber) -> bool
     requires { ⌜ (n ≡ pagesIn w (now pool)) × (n ≤ 65535) × (c ≤ 8) × (rule2 (fieldsOf w (now pool)) n ≡ true) ⌝ }
-    ensures { λ r. ⌜ r ≡ openAt (fieldsOf w (now (pool .entry))) n c p ⌝ }
+    ensures { λ r. ⌜ r ≡ openAt (fieldsOf w (now (pool .entry))) n c (p .0) ⌝ }
 {
-    if p < n {
+    if (p.0 as usize) < n {
         return open_inside(pool, w, n, c, p);
     }
     false
 }
 
-fn on_list(pool: &[u8], w: u8, n: usize, c: u8, p: usize) -> bool
-    requires { ⌜ (n ≡ pagesIn w (now pool)) × (n ≤ 65535) × (rule2 (fieldsOf w (now pool)) n ≡ true) ⌝ }
-    ensures { λ r. ⌜ r ≡ belongs (fieldsOf w (now (pool .entry))) n c p ⌝ }
+fn on_list(pool: &[u8], w: u8, n: usize, list: u8, p: PageNumber) -> bool
+    requires { ⌜ (n ≡ pagesIn w (now pool)) × (n ≤ 65535) × (rule2 (fieldsOf w (now pool)) n ≡ true) × (list ≤ 9) ⌝ }
+    ensures { λ r. ⌜ r ≡ belongs (fieldsOf w (now (pool .entry))) n list (p .0) ⌝ }
 {
-    if c < 9 {
-        return is_open(pool, w, n, c, p);
+    if list == 0 {
+        return is_head(pool, w, n, p);
     }
-    is_head(pool, w, n, p)
+    is_open(pool, w, n, list - 1, p)
 }
 
-// Follows next from `first` over `count` pages of list c, after which the list ends.
-pub fn follow(pool: &[u8], w: u8, n: usize, c: u8, count: usize, first: usize) -> bool
-    requires { ⌜ (n ≡ pagesIn w (now pool)) × (n ≤ 65535) × (rule2 (fieldsOf w (now pool)) n ≡ true) × (first ≤ 65535) ⌝ }
-    ensures { λ r. ⌜ r ≡ linked (belongs (fieldsOf w (now (pool .entry))) n c) (next (fieldsOf w (now (pool .entry)))) (prev (fieldsOf w (now (pool .entry)))) count noPage first ⌝ }
+// Follows next from `first` over `count` pages that belong on the list, after which it ends.
+pub fn follow(pool: &[u8], w: u8, n: usize, list: u8, count: usize, first: PageNumber) -> bool
+    requires { ⌜ (n ≡ pagesIn w (now pool)) × (n ≤ 65535) × (rule2 (fieldsOf w (now pool)) n ≡ true) × (list ≤ 9) ⌝ }
+    ensures { λ r. ⌜ r ≡ linked (belongs (fieldsOf w (now (pool .entry))) n list) (next (fieldsOf w (now (pool .entry)))) (prev (fieldsOf w (now (pool .entry)))) count noPage (first .0) ⌝ }
 {
-    let mut before = NONE;
+    let mut before = PageNumber(NO_PAGE);
     let mut at = first;
     let mut left = count;
     while 0 < left {
-        if !on_list(pool, w, n, c, at) {
+        if !on_list(pool, w, n, list, at) {
             return false;
         }
         if !leads_back(pool, w, at, before) {
@@ -104,5 +100,5 @@ pub fn follow(pool: &[u8], w: u8, n: usize, c: u8, count: usize, first: usize) -
         at = next_of(pool, w, at);
         left -= 1;
     }
-    at == NONE
+    at.0 == NO_PAGE
 }

@@ -7,6 +7,9 @@ use borrow.Author.Needs.{needs}
 use Rattle.validate_fields.proofs.kind_at.Statement.{statement}
 use Rattle.validate_fields.proofs.kind_at.Tie as tie
 
+cast-q : tie.Need-cast-q
+cast-q c = search needs
+
 kind-of-requires : tie.Need-kind-of-requires
 kind-of-requires c κs = search needs
 
@@ -19,4 +22,4 @@ unfolding kindAt
 returns-2 c = search picks
 
 pub kind-at-spec : {M : Type 1} → statement M
-kind-at-spec = tie.close (tie.spec kind-of-requires returns returns-2)
+kind-at-spec = tie.close (tie.spec cast-q kind-of-requires returns returns-2)

@@ -6,6 +6,9 @@ use borrow.Author.Needs.{needs}
 use Rattle.validate_fields.proofs.map_at.Statement.{statement}
 use Rattle.validate_fields.proofs.map_at.Tie as tie
 
+cast-q : tie.Need-cast-q
+cast-q c = search needs
+
 mul-result : tie.Need-mul-result
 mul-result c = search needs
 
@@ -48,6 +51,7 @@ pub map-at-spec : {M : Type 1} → statement M
 map-at-spec =
     tie.close
     (tie.spec
+    cast-q
     mul-result
     add-result
     mul-result-2

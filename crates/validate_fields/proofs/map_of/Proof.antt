@@ -3,26 +3,22 @@ use borrow.Author.Needs.{needs}
 use Rattle.validate_fields.proofs.map_of.Statement.{statement}
 use Rattle.validate_fields.proofs.map_of.Tie as tie
 
-mul-get-word : tie.Need-mul-get-word
-mul-get-word c = search needs
+mul-place : tie.Need-mul-place
+mul-place c = search needs
 
-add-get-word : tie.Need-add-get-word
-add-get-word c = search needs
+add-place : tie.Need-add-place
+add-place c = search needs
 
-mul-get-word-2 : tie.Need-mul-get-word-2
-mul-get-word-2 c = search needs
-
-add-get-word-2 : tie.Need-add-get-word-2
-add-get-word-2 c = search needs
+place-requires : tie.Need-place-requires
+place-requires c κs = search needs
 
 get-word-requires : tie.Need-get-word-requires
 get-word-requires c κs = search needs
 
 returns : tie.Need-returns
 unfolding fieldsOf imageOf
-returns c = cc
+returns c = rw (c .before .place .ensures) at (c .get-word .ensures)
 
 pub map-of-spec : {M : Type 1} → statement M
 map-of-spec =
-    tie.close
-    (tie.spec mul-get-word add-get-word mul-get-word-2 add-get-word-2 get-word-requires returns)
+    tie.close (tie.spec mul-place add-place place-requires get-word-requires returns)

@@ -9,15 +9,12 @@ get-header-requires c κs = search needs
 middle-requires : tie.Need-middle-requires
 middle-requires c κs = search needs
 
-cast-follow : tie.Need-cast-follow
-cast-follow c = search needs
-
 follow-requires : tie.Need-follow-requires
 follow-requires c κs = search needs
 
 returns : tie.Need-returns
-returns c = let b = c .before .before .before .before .before in runs-listed (b .args .w) (b .args .pool .now) (b .args .n) (b .args .t .now) (b .pre) _ _ (c .before .before .middle .ensures .0) _ (c .before .before .before .get-header .ensures) (c .follow .ensures)
+returns c = let b = c .before .before .before .before in runs-listed (b .args .w) (b .args .pool .now) (b .args .n) (b .args .t .now) (b .pre) _ _ (c .before .middle .ensures .0) _ (c .before .before .get-header .ensures) (c .follow .ensures)
 
 pub free-list-spec : {M : Type 1} → statement M
 free-list-spec =
-    tie.close (tie.spec get-header-requires middle-requires cast-follow follow-requires returns)
+    tie.close (tie.spec get-header-requires middle-requires follow-requires returns)

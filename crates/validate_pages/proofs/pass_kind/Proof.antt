@@ -16,6 +16,9 @@ pass-class-requires c κs = (search needs, cc)
 pass-taken-requires : tie.Need-pass-taken-requires
 pass-taken-requires c κs = (search needs, cc)
 
+cast-result : tie.Need-cast-result
+cast-result c = search needs
+
 returns : tie.Need-returns
 returns c = search needs
 
@@ -27,7 +30,7 @@ returns-3 c = search needs
 
 returns-4 : tie.Need-returns-4
 returns-4 c =
-    let u = c .before in
+    let u = c .before .before in
     let b = u .before .before in
     let e = u .unpack-links .ensures in
     let x : u .unpack-links .result .kind ≢ 1 = search needs in
@@ -43,6 +46,7 @@ pass-kind-spec =
     pass-free-requires
     pass-class-requires
     pass-taken-requires
+    cast-result
     returns
     returns-2
     returns-3

@@ -24,6 +24,9 @@ abbrev μ-loop : tie.MeasureT-loop
 loop-holds : tie.Need-loop-holds Inv-loop μ-loop
 loop-holds c = (search needs, all-none _, pass-none _ _ _ (c .before .pre .2) (c .before .pre .3), λ h. border-start _ _)
 
+cast-at : tie.Need-cast-at Inv-loop μ-loop
+cast-at c = search needs
+
 pass-next-requires : tie.Need-pass-next-requires Inv-loop μ-loop
 pass-next-requires c κs = (search needs, search needs, search needs, c .before .before .loop .inv .3 (c .before .loop-test .taken))
 
@@ -46,4 +49,4 @@ returns-2 c = (all-done _ _ _ (c .before .loop .inv .0) (c .loop-test .left) (c 
 
 pub scan-spec : {M : Type 1} → statement M
 scan-spec =
-    tie.close (tie.spec Inv-loop μ-loop loop-holds pass-next-requires returns loop-less loop-again returns-2)
+    tie.close (tie.spec Inv-loop μ-loop loop-holds cast-at pass-next-requires returns loop-less loop-again returns-2)

@@ -12,6 +12,9 @@ cast-k c = search needs
 map-of-requires : tie.Need-map-of-requires
 map-of-requires c κs = search needs
 
+cast-all4 : tie.Need-cast-all4
+cast-all4 c = search needs
+
 add-all4 : tie.Need-add-all4
 add-all4 c = search needs
 
@@ -20,9 +23,9 @@ all4-requires c κs = search needs
 
 returns : tie.Need-returns
 unfolding begins
-returns c = let m = c .before .before in rw (m .map-of .ensures, m .before .before .unpack-links .ensures) at (c .all4 .ensures)
+returns c = let m = c .before .before .before in rw (m .map-of .ensures, m .before .before .unpack-links .ensures) at (c .all4 .ensures)
 
 pub begins-run-spec : {M : Type 1} → statement M
 begins-run-spec =
     tie.close
-    (tie.spec unpack-links-requires cast-k map-of-requires add-all4 all4-requires returns)
+    (tie.spec unpack-links-requires cast-k map-of-requires cast-all4 add-all4 all4-requires returns)

@@ -8,6 +8,9 @@ use borrow.Author.Needs.{needs}
 use Rattle.validate_runs.proofs.ends_taken.Statement.{statement}
 use Rattle.validate_runs.proofs.ends_taken.Tie as tie
 
+cast-q : tie.Need-cast-q
+cast-q c = search needs
+
 kind-of-requires : tie.Need-kind-of-requires
 kind-of-requires c κs = search needs
 
@@ -20,4 +23,4 @@ unfolding endsTaken
 returns-2 c = search picks
 
 pub ends-taken-spec : {M : Type 1} → statement M
-ends-taken-spec = tie.close (tie.spec kind-of-requires returns returns-2)
+ends-taken-spec = tie.close (tie.spec cast-q kind-of-requires returns returns-2)

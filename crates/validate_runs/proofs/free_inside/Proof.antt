@@ -7,6 +7,9 @@ use Rattle.validate_runs.proofs.free_inside.Tie as tie
 last-plain-requires : tie.Need-last-plain-requires
 last-plain-requires c κs = search needs
 
+cast-plain-from : tie.Need-cast-plain-from
+cast-plain-from c = search needs
+
 add-plain-from : tie.Need-add-plain-from
 add-plain-from c = search needs
 
@@ -18,7 +21,7 @@ plain-from-requires c κs = search needs
 
 returns : tie.Need-returns
 unfolding freeInside
-returns c = pick-on _ _ _ _ (c .before .before .before .last-plain .ensures) (c .before .before .if1 .taken) (rw (c .before .minus .ensures) at (c .plain-from .ensures))
+returns c = pick-on _ _ _ _ (c .before .before .before .before .last-plain .ensures) (c .before .before .before .if1 .taken) (rw (c .before .minus .ensures) at (c .plain-from .ensures))
 
 returns-2 : tie.Need-returns-2
 unfolding freeInside
@@ -29,6 +32,7 @@ free-inside-spec =
     tie.close
     (tie.spec
     last-plain-requires
+    cast-plain-from
     add-plain-from
     minus-requires
     plain-from-requires

@@ -4,6 +4,9 @@ use borrow.Author.Needs.{needs}
 use Rattle.validate_runs.proofs.free_rest.Statement.{statement}
 use Rattle.validate_runs.proofs.free_rest.Tie as tie
 
+cast-ends-free : tie.Need-cast-ends-free
+cast-ends-free c = search needs
+
 add-ends-free : tie.Need-add-ends-free
 add-ends-free c = search needs
 
@@ -23,4 +26,4 @@ returns-2 c = search picks
 
 pub free-rest-spec : {M : Type 1} → statement M
 free-rest-spec =
-    tie.close (tie.spec add-ends-free ends-free-requires free-inside-requires returns returns-2)
+    tie.close (tie.spec cast-ends-free add-ends-free ends-free-requires free-inside-requires returns returns-2)

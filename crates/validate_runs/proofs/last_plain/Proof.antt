@@ -4,17 +4,23 @@ use borrow.Author.Needs.{needs}
 use Rattle.validate_runs.proofs.last_plain.Statement.{statement}
 use Rattle.validate_runs.proofs.last_plain.Tie as tie
 
-add-plain-at : tie.Need-add-plain-at
-add-plain-at c = search needs
+cast-last : tie.Need-cast-last
+cast-last c = search needs
 
-sub-plain-at : tie.Need-sub-plain-at
-sub-plain-at c = search needs
+add-last : tie.Need-add-last
+add-last c = search needs
+
+sub-last : tie.Need-sub-last
+sub-last c = search needs
+
+cast-plain-at : tie.Need-cast-plain-at
+cast-plain-at c = search needs
 
 mul-plain-at : tie.Need-mul-plain-at
 mul-plain-at c = search needs
 
-add-plain-at-2 : tie.Need-add-plain-at-2
-add-plain-at-2 c = search needs
+add-plain-at : tie.Need-add-plain-at
+add-plain-at c = search needs
 
 plain-at-requires : tie.Need-plain-at-requires
 plain-at-requires c κs = search needs
@@ -31,10 +37,12 @@ pub last-plain-spec : {M : Type 1} → statement M
 last-plain-spec =
     tie.close
     (tie.spec
-    add-plain-at
-    sub-plain-at
+    cast-last
+    add-last
+    sub-last
+    cast-plain-at
     mul-plain-at
-    add-plain-at-2
+    add-plain-at
     plain-at-requires
     returns
     returns-2)

@@ -13,7 +13,7 @@ both-requires : tie.Need-both-requires
 both-requires c κs = search needs
 
 returns : tie.Need-returns
-returns c = let b = c .before .before .before .before in paged (b .args .w) (b .args .pool .now) (b .args .p) (b .args .c) _ _ _ (b .pre .3) (c .before .before .own-marked .ensures) (c .before .map-of .ensures) (c .both .ensures)
+returns c = let b = c .before .before .before .before in paged (b .args .w) (b .args .pool .now) (b .args .p .0) (b .args .c) _ _ _ (b .pre .3) (c .before .before .own-marked .ensures) (c .before .map-of .ensures) (c .both .ensures)
 
 pub paged-fits-spec : {M : Type 1} → statement M
 paged-fits-spec = tie.close (tie.spec own-marked-requires map-of-requires both-requires returns)

@@ -10,7 +10,7 @@ unused-clear-requires : tie.Need-unused-clear-requires
 unused-clear-requires c κs = search needs
 
 returns : tie.Need-returns
-returns c = let b = c .before .before .before in recorded (b .args .w) (b .args .pool .now) (b .args .p) (b .args .c) _ _ (b .pre .1) (c .before .map-of .ensures) (c .unused-clear .ensures)
+returns c = let b = c .before .before .before in recorded (b .args .w) (b .args .pool .now) (b .args .p .0) (b .args .c) _ _ (b .pre) (c .before .map-of .ensures) (c .unused-clear .ensures)
 
 pub recorded-fits-spec : {M : Type 1} → statement M
 recorded-fits-spec = tie.close (tie.spec map-of-requires unused-clear-requires returns)

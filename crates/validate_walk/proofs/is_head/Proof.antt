@@ -5,6 +5,9 @@ use borrow.Author.Needs.{needs}
 use Rattle.validate_walk.proofs.is_head.Statement.{statement}
 use Rattle.validate_walk.proofs.is_head.Tie as tie
 
+cast-if1 : tie.Need-cast-if1
+cast-if1 c = search needs
+
 kind-of-requires : tie.Need-kind-of-requires
 kind-of-requires c κs = search needs
 
@@ -17,4 +20,4 @@ unfolding isHead
 returns-2 c = search picks
 
 pub is-head-spec : {M : Type 1} → statement M
-is-head-spec = tie.close (tie.spec kind-of-requires returns returns-2)
+is-head-spec = tie.close (tie.spec cast-if1 kind-of-requires returns returns-2)

@@ -5,11 +5,8 @@ use Rattle.validate_walk.proofs.leads_back.Tie as tie
 links-of-requires : tie.Need-links-of-requires
 links-of-requires c κs = search needs
 
-cast-result : tie.Need-cast-result
-cast-result c = search needs
-
 returns : tie.Need-returns
-returns c = rw (c .before .links-of .ensures)
+returns c = rw (c .before .before .links-of .ensures)
 
 pub leads-back-spec : {M : Type 1} → statement M
-leads-back-spec = tie.close (tie.spec links-of-requires cast-result returns)
+leads-back-spec = tie.close (tie.spec links-of-requires returns)

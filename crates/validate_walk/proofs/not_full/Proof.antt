@@ -15,7 +15,7 @@ is-full-requires : tie.Need-is-full-requires
 is-full-requires c κs = search needs
 
 returns : tie.Need-returns
-returns c = let a = c .before .before .before .args in let e : c .before .map-at .result ≡ mapBase (a .w) (a .n) (a .p) (a .c) / 8 = omega (arith, c .before .map-at .ensures .0) in ap not (c .is-full .ensures ∙ ap (λ (k : ℕ). isFull (a .pool .now) k (a .c)) e)
+returns c = let a = c .before .before .before .args in let e : c .before .map-at .result ≡ mapBase (a .w) (a .n) (a .p .0) (a .c) / 8 = omega (arith, c .before .map-at .ensures .0) in ap not (c .is-full .ensures ∙ ap (λ (k : ℕ). isFull (a .pool .now) k (a .c)) e)
 
 pub not-full-spec : {M : Type 1} → statement M
 not-full-spec = tie.close (tie.spec map-at-requires is-full-requires returns)

@@ -3,17 +3,20 @@ use borrow.Author.Needs.{needs}
 use Rattle.validate_walk.proofs.on_list.Statement.{statement}
 use Rattle.validate_walk.proofs.on_list.Tie as tie
 
-is-open-requires : tie.Need-is-open-requires
-is-open-requires c κs = search needs
-
-returns : tie.Need-returns
-returns c = class-on _ _ _ _ _ (c .before .if1 .taken) (c .is-open .ensures)
-
 is-head-requires : tie.Need-is-head-requires
 is-head-requires c κs = search needs
 
+returns : tie.Need-returns
+returns c = run-on _ _ _ _ _ (c .before .if1 .taken) (c .is-head .ensures)
+
+sub-is-open : tie.Need-sub-is-open
+sub-is-open c = search needs
+
+is-open-requires : tie.Need-is-open-requires
+is-open-requires c κs = search needs
+
 returns-2 : tie.Need-returns-2
-returns-2 c = run-on _ _ _ _ _ (c .before .if1 .left) (c .is-head .ensures)
+returns-2 c = class-on _ _ _ _ _ (c .before .if1 .left) (c .is-open .ensures)
 
 pub on-list-spec : {M : Type 1} → statement M
-on-list-spec = tie.close (tie.spec is-open-requires returns is-head-requires returns-2)
+on-list-spec = tie.close (tie.spec is-head-requires returns sub-is-open is-open-requires returns-2)
