@@ -14,7 +14,7 @@ use Rattle.base.proofs.Cases.{eq?, bool?}
 use Rattle.base.proofs.Functions.{upd-same, upd-other}
 use Rattle.records.specs.Layout.{noPage}
 use Rattle.model.specs.Classes.{chunks, own, hasClear, hasTaken}
-use Rattle.model.specs.State.{slab, State, isOpen, isOpen}
+use Rattle.model.specs.State.{slab, State, isOpen}
 use Rattle.model.specs.View.{usedOn, usedOf, shown}
 use Rattle.model.specs.Calls.{relisted, keepPage}
 use Rattle.model.specs.WellFormed.{WellFormed}

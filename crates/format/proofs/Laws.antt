@@ -12,7 +12,8 @@ use Rattle.image.specs.Image.{headerOf, paint, setLinks}
 use Rattle.image.proofs.Paint.{links-paint}
 use Rattle.answers.specs.Outcome.{granted, refused}
 use Rattle.answers.specs.declared.Refusal.the-variants.{TooShort, TooLong}
-use Rattle.format.specs.Format.{shortest, tooLong, formatOutcome, insideFree, firstFree, allFree, freshImage, formatted, filled, classesCleared, pagesCleared, runLinked, written}
+use Rattle.format.specs.Format.{shortest, tooLong, formatOutcome, insideFree, firstFree, allFree, freshImage, formatted}
+use Rattle.format.specs.Mirror.{filled, classesCleared, pagesCleared, runLinked, written}
 
 pub cleared-paint : (w P : ℕ) (s : List ℕ) → pagesCleared w P (classesCleared w (withHeader s (headerOf w P P 0))) ≡ paint w P (allFree P) s
 unfolding pagesCleared classesCleared filled withHeader paint

@@ -7,7 +7,7 @@ use native.Mathlib.Omega.{arith}
 use borrow.Author.Needs.{needs}
 use Rattle.words.specs.Word.{setWord}
 use Rattle.image.specs.Image.{writeAt}
-use Rattle.format.specs.Format.{filled}
+use Rattle.format.specs.Mirror.{filled}
 
 pub fill-none : (s : List ℕ) (from step v : ℕ) → s ≡ filled s from step 0 v
 unfolding filled writeAt

@@ -7,10 +7,8 @@ use Rattle.base.specs.Tests.{pick}
 use Rattle.records.specs.Layout.{noPage, pageCount}
 use Rattle.model.specs.Classes.{maxPages}
 use Rattle.records.specs.declared.Links.{Links}
-use Rattle.records.specs.Header.{withHeader}
-use Rattle.records.specs.Class.{emptyClass, packCounts, packTally}
-use Rattle.records.specs.Page.{packLinks, withLinks}
-use Rattle.image.specs.Image.{Image, headerOf, writeAt, paint, setLinks}
+use Rattle.records.specs.Class.{emptyClass}
+use Rattle.image.specs.Image.{Image, paint, setLinks}
 use Rattle.answers.specs.Outcome.{Outcome, granted, refused}
 use Rattle.answers.specs.declared.Refusal.the-variants.{TooShort, TooLong}
 
@@ -50,22 +48,3 @@ unfoldable pub formatted : ℕ → List ℕ → List ℕ
 formatted w s =
     pick (ltb (length s) (shortest w)) s
     (pick (leb (tooLong w) (length s)) s (paint w (pageCount w (length s)) (freshImage (pageCount w (length s))) s))
-
--- ---- the stores that do it
-
--- n words, `step` apart from `from` on
-unfoldable pub filled : List ℕ → ℕ → ℕ → ℕ → ℕ → List ℕ
-filled s from step n v = writeAt (λ i. from + step * i) n (λ i. v) s
-
-unfoldable pub classesCleared : ℕ → List ℕ → List ℕ
-classesCleared w s = filled (filled s 1 w 9 (packCounts emptyClass)) 2 w 9 (packTally emptyClass)
-
-unfoldable pub pagesCleared : ℕ → ℕ → List ℕ → List ℕ
-pagesCleared w P s = filled (filled s (1 + 9 * w) 2 P 0) (2 + 9 * w) 2 P (packLinks (insideFree noPage))
-
--- the pages become one free run
-unfoldable pub runLinked : ℕ → ℕ → List ℕ → List ℕ
-runLinked w P s = withLinks w (withLinks w s (P - 1) (insideFree 0)) 0 (firstFree P)
-
-unfoldable pub written : ℕ → ℕ → List ℕ → List ℕ
-written w P s = runLinked w P (pagesCleared w P (classesCleared w (withHeader s (headerOf w P P 0))))

@@ -16,7 +16,8 @@ ghost use Prim.Native.Nat.{_≤_, _<_};
 ghost use lib.ListN.{length};
 ghost use Rattle.answers.specs.Outcome.{ofFormat};
 ghost use Rattle.image.specs.Image.{headerOf};
-ghost use Rattle.format.specs.Format.{formatOutcome, insideFree, firstFree, formatted, filled, classesCleared, pagesCleared, runLinked, written};
+ghost use Rattle.format.specs.Format.{formatOutcome, insideFree, firstFree, formatted};
+ghost use Rattle.format.specs.Mirror.{filled, classesCleared, pagesCleared, runLinked, written};
 
 // The header of a pool of one free run.
 fn fresh_header(w: u8, pages: u16) -> Header

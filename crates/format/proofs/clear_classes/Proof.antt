@@ -1,4 +1,4 @@
-use Rattle.format.specs.Format.{classesCleared}
+use Rattle.format.specs.Mirror.{classesCleared}
 use borrow.Author.Needs.{needs}
 use Rattle.format.proofs.clear_classes.Statement.{statement}
 use Rattle.format.proofs.clear_classes.Tie as tie

@@ -1,4 +1,4 @@
-use Rattle.format.specs.Format.{pagesCleared}
+use Rattle.format.specs.Mirror.{pagesCleared}
 use borrow.Author.Needs.{needs}
 use Rattle.format.proofs.clear_pages.Statement.{statement}
 use Rattle.format.proofs.clear_pages.Tie as tie

@@ -1,7 +1,7 @@
 use mathlib.Core.Path.{_≡_}
 use Prim.Native.Nat.{_-_, _≤_}
 use lib.ListN.{length}
-use Rattle.format.specs.Format.{filled}
+use Rattle.format.specs.Mirror.{filled}
 use Rattle.format.proofs.Steps.{fills}
 use Rattle.format.proofs.fill.Statement.{statement}
 use Rattle.format.proofs.fill.Tie as tie

@@ -1,4 +1,4 @@
-use Rattle.format.specs.Format.{runLinked}
+use Rattle.format.specs.Mirror.{runLinked}
 use borrow.Author.Needs.{needs}
 use Rattle.format.proofs.link_run.Statement.{statement}
 use Rattle.format.proofs.link_run.Tie as tie

@@ -1,4 +1,4 @@
-use Rattle.format.specs.Format.{written}
+use Rattle.format.specs.Mirror.{written}
 use borrow.Author.Needs.{needs}
 use Rattle.format.proofs.write_records.Statement.{statement}
 use Rattle.format.proofs.write_records.Tie as tie
