@@ -1,4 +1,4 @@
--- What alloc (document 01: take) and free (give) answer and leave, for every content of the slice.
+-- What alloc and free answer and leave (SPEC 4), for every content of the slice.
 use Prim.Native.Nat.{ℕ, _/_, _%_}
 use mathlib.Core.Bool.{false, cond}
 use mathlib.Core.List.{List}
@@ -14,7 +14,7 @@ use Rattle.model.specs.Calls.{Call, Alloc, Free, Answer, at, freed, no, step}
 use Rattle.rules.specs.Bytes.{pagesIn, mapBase, brokenRule, read}
 use Rattle.drawing.specs.Draw.{draw}
 
--- the model's answer in document 01's terms; a free tells no value
+-- the model's answer as number and value (SPEC 4.1); a free tells no value
 abbrev pub outcome : Answer → Outcome
 outcome (at off) = granted off
 outcome (freed n) = granted 0
@@ -24,7 +24,7 @@ outcome (no k) = record { number = k; value = 0 }
 unfoldable pub answered : ℕ → List ℕ → Call → Outcome
 answered w s call = pick (eqb (brokenRule w s) 0) (outcome (step (read w s) call .answer)) (refused NotSound)
 
--- The last chunk of a page that is freed has its mark cleared before the page is released, and the mark stays cleared in the page's bytes.
+-- The last chunk of a page that is freed has its mark cleared, and the mark stays cleared in the bytes of the page, which is free then.
 -- Where other chunks stay taken the drawing has the mark.
 unfoldable pub clearedAt : ℕ → List ℕ → ℕ → ℕ → Page → List ℕ
 clearedAt w s p q idle = s

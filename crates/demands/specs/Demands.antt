@@ -81,7 +81,7 @@ pub record Turn : Type 0 where
   pub bytes : List ℕ
   pub call : Call
 
--- the live set (document 01: the book) after a call, from its argument and its answer alone
+-- the live set (SPEC 6.2) after a call, from its argument and its answer alone
 unfoldable pub fed : List Block → Call → Outcome → List Block
 fed B (Alloc n) o = pick (eqb (o .number) 0) (blockFor (needOf n) (o .value) ∷ B) B
 fed B (Free off) o = pick (eqb (o .number) 0) (keep (elsewhere off) B) B
@@ -118,7 +118,7 @@ Apart B (Free off) o = Unit {0}
 pub record Faithful (w P : ℕ) (B : List Block) (s : List ℕ) : Type 0 where
   pub sound : brokenRule w s ≡ 0
   pub size : pagesIn w s ≡ P
-  -- the five: free runs, class pages, maps, used and total are those of the expected view (document 01: the picture)
+  -- the five: free runs, class pages, maps, used and total are those of the expected view (SPEC 6.3)
   pub view : shownBy w s ≡ expected P B
   pub once : NoDup B
   pub live : (e : Block) → Mem e B ↔ liveIn w s e

@@ -1,4 +1,4 @@
--- Document 01's starred examples on bytes: the questions and facts of the model's list, asked of format and of what it leaves of any slice.
+-- The examples of SPEC 9.1 and the worked case on bytes: the questions and facts of the model's list, asked of format and of what it leaves of any slice.
 use mathlib.Core.Path.{_≡_}
 use mathlib.Core.List.{List, [], _∷_, map}
 use Prim.Native.Nat.{ℕ, _≤_, _<_}

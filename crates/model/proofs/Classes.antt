@@ -16,7 +16,6 @@ use Rattle.model.specs.Classes.{maxPages, chunk, chunks, own, lowest, ha
 -- ---- numbers
 
 pub max-pages : (1 ≤ maxPages) × (maxPages ≤ 4096)
-unfolding maxPages
 max-pages = (omega arith, omega arith)
 
 -- a bitmap lies in its own chunks, or it has none and fits a word of 64 bits

@@ -41,7 +41,7 @@ pub record ClassFits (r : ClassRecord) : Type 0 where
 unfoldable pub packCounts : ClassRecord → ℕ
 packCounts r = r .first .0 * 281474976710656 + r .used % 16777216 * 16777216 + r .total % 16777216
 
--- reqs (document 01: asks) 32 bits, fails (failures) 32
+-- asks 32 bits, failures 32
 unfoldable pub packTally : ClassRecord → ℕ
 packTally r = r .reqs * 4294967296 + r .fails
 

@@ -52,7 +52,7 @@ pub struct Header {
     pub first_run: PageNumber,
 }
 
-// `reqs` and `fails` are nginx's names for what document 01 calls asks and failures.
+// `reqs` and `fails` are nginx's names for asks and failures (SPEC 2.3).
 pub struct ClassRecord {
     pub first: PageNumber,
     pub used: u32,

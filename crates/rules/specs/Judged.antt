@@ -1,4 +1,4 @@
--- What validation tells (document 01: judge): yes exactly when all six rules hold, and else the number of the first that does not.
+-- What validation tells (SPEC 3): yes exactly when all six rules hold, and else the number of the first that does not.
 -- `judged` in `proofs/Judged.antt` proves it of all bytes.
 use mathlib.Core.Path.{_≡_}
 use mathlib.Core.Logic.{_↔_}

@@ -1,4 +1,4 @@
-// Whether a pool's records are sound (document 01: judge): one pass over the pages and one walk along each list.
+// Whether a pool's records are sound (SPEC 3): one pass over the pages and one walk along each list.
 // `w` is the number of words of a class record.
 ghost use mathlib.Core.Path.{_≡_};
 ghost use Prim.Native.Nat.{_≤_};
