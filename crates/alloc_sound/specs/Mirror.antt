@@ -8,52 +8,52 @@ use Rattle.answers.specs.Outcome.{Outcome, granted, refused}
 use Rattle.answers.specs.declared.Refusal.the-variants.{NoRoom}
 use Rattle.model.specs.Classes.{chunk, chunks, own, pagesFor}
 use Rattle.maps.specs.Mirror.{lowestClear}
-use Rattle.lists.specs.Links.{firstOf}
+use Rattle.lists.specs.Mirror.{firstOf}
 use Rattle.rules.specs.Bytes.{mapBase}
-use Rattle.run_extents.specs.Extents.{fitIn, runTaken}
-use Rattle.classes.specs.Classes.{chunkRefused}
-use Rattle.chunks.specs.Chunks.{chunkTaken, pageCut}
-use Rattle.sizes.specs.Sizes.{classFor}
+use Rattle.run_extents.specs.Mirror.{fitIn, runTaken}
+use Rattle.classes.specs.Mirror.{chunkRefused}
+use Rattle.chunks.specs.Mirror.{chunkTaken, pageCut}
+use Rattle.sizes.specs.Mirror.{classFor}
 
 -- ---- a chunk of class c
 
 -- of page p
-unfoldable pub lowestOn : ℕ → List ℕ → ℕ → ℕ → ℕ → ℕ
+unfoldable pub lowestOn : (w : ℕ) (s : List ℕ) (P c p : ℕ) → ℕ
 lowestOn w s P c p = lowestClear s (mapBase w P p c) (chunks c)
 
-unfoldable pub chunkOutcome : ℕ → List ℕ → ℕ → ℕ → ℕ → Outcome
+unfoldable pub chunkOutcome : (w : ℕ) (s : List ℕ) (P c p : ℕ) → Outcome
 chunkOutcome w s P c p = granted (4096 * p + chunk c * lowestOn w s P c p)
 
-unfoldable pub chunkSlice : ℕ → List ℕ → ℕ → ℕ → ℕ → List ℕ
+unfoldable pub chunkSlice : (w : ℕ) (s : List ℕ) (P c p : ℕ) → List ℕ
 chunkSlice w s P c p = chunkTaken w s P c p (lowestOn w s P c p)
 
 -- of a new page p, where there is one
-unfoldable pub firstOutcome : ℕ → ℕ → Outcome
+unfoldable pub firstOutcome : (c p : ℕ) → Outcome
 firstOutcome c p = granted (4096 * p + chunk c * own c)
 
-unfoldable pub cutOutcome : ℕ → ℕ → Outcome
+unfoldable pub cutOutcome : (c p : ℕ) → Outcome
 cutOutcome c p = pick (eqb p noPage) (refused NoRoom) (firstOutcome c p)
 
-unfoldable pub cutSlice : ℕ → List ℕ → ℕ → ℕ → ℕ → List ℕ
+unfoldable pub cutSlice : (w : ℕ) (s : List ℕ) (P c p : ℕ) → List ℕ
 cutSlice w s P c p = pick (eqb p noPage) (chunkRefused w s c) (pageCut w s P c p)
 
-unfoldable pub newOutcome : ℕ → List ℕ → ℕ → ℕ → Outcome
+unfoldable pub newOutcome : (w : ℕ) (s : List ℕ) (P c : ℕ) → Outcome
 newOutcome w s P c = cutOutcome c (fitIn w s P 1)
 
-unfoldable pub newSlice : ℕ → List ℕ → ℕ → ℕ → List ℕ
+unfoldable pub newSlice : (w : ℕ) (s : List ℕ) (P c : ℕ) → List ℕ
 newSlice w s P c = cutSlice w s P c (fitIn w s P 1)
 
 -- of the class list's first page p, or a new one where there is none
-unfoldable pub fromOutcome : ℕ → List ℕ → ℕ → ℕ → ℕ → Outcome
+unfoldable pub fromOutcome : (w : ℕ) (s : List ℕ) (P c p : ℕ) → Outcome
 fromOutcome w s P c p = pick (eqb p noPage) (newOutcome w s P c) (chunkOutcome w s P c p)
 
-unfoldable pub fromSlice : ℕ → List ℕ → ℕ → ℕ → ℕ → List ℕ
+unfoldable pub fromSlice : (w : ℕ) (s : List ℕ) (P c p : ℕ) → List ℕ
 fromSlice w s P c p = pick (eqb p noPage) (newSlice w s P c) (chunkSlice w s P c p)
 
-unfoldable pub classOutcome : ℕ → List ℕ → ℕ → ℕ → Outcome
+unfoldable pub classOutcome : (w : ℕ) (s : List ℕ) (P c : ℕ) → Outcome
 classOutcome w s P c = fromOutcome w s P c (firstOf w s (1 + c))
 
-unfoldable pub classSlice : ℕ → List ℕ → ℕ → ℕ → List ℕ
+unfoldable pub classSlice : (w : ℕ) (s : List ℕ) (P c : ℕ) → List ℕ
 classSlice w s P c = fromSlice w s P c (firstOf w s (1 + c))
 
 -- ---- k pages
@@ -61,19 +61,19 @@ classSlice w s P c = fromSlice w s P c (firstOf w s (1 + c))
 unfoldable pub runOutcome : ℕ → Outcome
 runOutcome p = pick (eqb p noPage) (refused NoRoom) (granted (4096 * p))
 
-unfoldable pub runSlice : ℕ → List ℕ → ℕ → ℕ → List ℕ
+unfoldable pub runSlice : (w : ℕ) (s : List ℕ) (k p : ℕ) → List ℕ
 runSlice w s k p = pick (eqb p noPage) s (runTaken w s p (k % 65536))
 
-unfoldable pub pagesOutcome : ℕ → List ℕ → ℕ → ℕ → Outcome
+unfoldable pub pagesOutcome : (w : ℕ) (s : List ℕ) (P k : ℕ) → Outcome
 pagesOutcome w s P k = runOutcome (fitIn w s P k)
 
-unfoldable pub pagesSlice : ℕ → List ℕ → ℕ → ℕ → List ℕ
+unfoldable pub pagesSlice : (w : ℕ) (s : List ℕ) (P k : ℕ) → List ℕ
 pagesSlice w s P k = runSlice w s k (fitIn w s P k)
 
 -- ---- a size
 
-unfoldable pub allocOutcome : ℕ → List ℕ → ℕ → ℕ → Outcome
+unfoldable pub allocOutcome : (w : ℕ) (s : List ℕ) (P n : ℕ) → Outcome
 allocOutcome w s P n = pick (leb n 2048) (classOutcome w s P (classFor n)) (pagesOutcome w s P (pagesFor n))
 
-unfoldable pub allocSlice : ℕ → List ℕ → ℕ → ℕ → List ℕ
+unfoldable pub allocSlice : (w : ℕ) (s : List ℕ) (P n : ℕ) → List ℕ
 allocSlice w s P n = pick (leb n 2048) (classSlice w s P (classFor n)) (pagesSlice w s P (pagesFor n))

@@ -12,10 +12,10 @@ ghost use Prim.Native.Nat.{_*_, _%_, _≤_};
 ghost use Rattle.answers.specs.Outcome.{granted, refused, ofAlloc};
 ghost use Rattle.answers.specs.declared.Refusal.the-variants.{NoRoom};
 ghost use Rattle.model.specs.Classes.{pagesFor};
-ghost use Rattle.sizes.specs.Sizes.{classFor};
-ghost use Rattle.run_extents.specs.Extents.{runTaken};
-ghost use Rattle.classes.specs.Classes.{chunkRefused};
-ghost use Rattle.chunks.specs.Chunks.{pageCut};
+ghost use Rattle.sizes.specs.Mirror.{classFor};
+ghost use Rattle.run_extents.specs.Mirror.{runTaken};
+ghost use Rattle.classes.specs.Mirror.{chunkRefused};
+ghost use Rattle.chunks.specs.Mirror.{pageCut};
 ghost use Rattle.alloc_sound.specs.Mirror.{chunkOutcome, chunkSlice, firstOutcome, cutOutcome, cutSlice, newOutcome, newSlice, fromOutcome, fromSlice, classOutcome, classSlice, runOutcome, runSlice, pagesOutcome, pagesSlice, allocOutcome, allocSlice};
 
 pub fn alloc_sound(pool: &mut [u8], w: u8, pages: u16, size: u32) -> Allocated

@@ -12,5 +12,5 @@ bit true = 1
 bit false = 0
 
 -- how many numbers below n pass the test q
-unfoldable pub count : (ℕ → Bool) → ℕ → ℕ
+unfoldable pub count : (q : (ℕ → Bool)) (n : ℕ) → ℕ
 count q n = sum (λ i. bit (q i)) n

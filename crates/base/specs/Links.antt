@@ -22,7 +22,7 @@ prevFrom z b x [] = z
 prevFrom z b x (y ∷ ys) = cond (eqb y x) b (prevFrom z y x ys)
 
 -- every page but p: `keep (others p) xs` is the list without p
-unfoldable pub others : ℕ → ℕ → Bool
+unfoldable pub others : (p q : ℕ) → Bool
 others p q = not (eqb q p)
 
 -- t in the place of r
@@ -31,7 +31,7 @@ replace r t [] = []
 replace r t (y ∷ ys) = cond (eqb y r) (t ∷ ys) (y ∷ replace r t ys)
 
 -- where the page after q is stored: with q, or at the head where q is no page
-abbrev pub node : ℕ → ℕ → ℕ → ℕ
+abbrev pub node : (z hd q : ℕ) → ℕ
 node z hd q = cond (eqb q z) hd q
 
 -- next and previous show the list xs, entered at hd

@@ -9,5 +9,5 @@ least q zero = zero
 least q (suc n) = cond (ltb (least q n) n) (least q n) (cond (q n) n (suc n))
 
 -- some number below n passes the test q
-unfoldable pub any : (ℕ → Bool) → ℕ → Bool
+unfoldable pub any : (q : (ℕ → Bool)) (n : ℕ) → Bool
 any q n = ltb (least q n) n

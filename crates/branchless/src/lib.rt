@@ -45,7 +45,8 @@ pub fn all6(a: bool, b: bool, c: bool, d: bool, e: bool, f: bool) -> bool
 
 // One for a test that holds.
 pub fn one_if(a: bool) -> u64
-    ensures { λ r. ⌜ (r ≡ bit a) × (r ≤ 1) ⌝ }
+    ensures answer { λ r. ⌜ r ≡ bit a ⌝ }
+    ensures bound { λ r. ⌜ r ≤ 1 ⌝ }
 {
     if a { 1 } else { 0 }
 }

@@ -5,7 +5,7 @@ ghost use mathlib.Core.Path.{_≡_};
 ghost use Rattle.maps.specs.Mirror.{lowestClear};
 ghost use Rattle.model.specs.Classes.{chunks};
 ghost use Rattle.rules.specs.Bytes.{mapBase};
-ghost use Rattle.chunks.specs.Chunks.{chunkTaken, newMapAt, pageCut};
+ghost use Rattle.chunks.specs.Mirror.{chunkTaken, newMapAt, pageCut};
 
 // The lowest free chunk of page p, or the number of its chunks where there is none.
 fn free_chunk_of(pool: &[u8], w: u8, pages: u16, c: u8, p: PageNumber) -> u16
@@ -30,8 +30,8 @@ fn take_chunk(pool: &mut [u8], w: u8, pages: u16, c: u8, p: PageNumber, i: u16)
 
 // Hands out the lowest free chunk of page p, the first on the list of class c, and answers its number.
 pub fn alloc_chunk(pool: &mut [u8], w: u8, pages: u16, c: u8, p: PageNumber) -> u16
-    ensures { λ r. ⌜ (r ≡ lowestClear (now (pool .entry)) (mapBase w pages (p .0) c) (chunks c))
-        × (now (pool .exit) ≡ chunkTaken w (now (pool .entry)) pages c (p .0) r) ⌝ }
+    ensures answer { λ r. ⌜ r ≡ lowestClear (now (pool .entry)) (mapBase w pages (p .0) c) (chunks c) ⌝ }
+    ensures slice { λ r. ⌜ now (pool .exit) ≡ chunkTaken w (now (pool .entry)) pages c (p .0) r ⌝ }
 {
     let i = free_chunk_of(pool, w, pages, c, p);
     take_chunk(pool, w, pages, c, p, i);

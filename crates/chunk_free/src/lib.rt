@@ -2,7 +2,7 @@
 // `w` is the number of words of a class record, `pages` the pages of the pool.
 use records::PageNumber;
 ghost use mathlib.Core.Path.{_≡_};
-ghost use Rattle.chunks.specs.Chunks.{chunkKept, pageDropped, chunkFreed};
+ghost use Rattle.chunks.specs.Mirror.{chunkKept, pageDropped, chunkFreed};
 
 // Chunk i of page p comes back and others stay taken.
 fn keep_page(pool: &mut [u8], w: u8, pages: u16, c: u8, p: PageNumber, i: u16)

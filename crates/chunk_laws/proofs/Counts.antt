@@ -18,7 +18,7 @@ use Rattle.model.specs.View.{isClass, kindOf, usedOn, usedOf, totalIn, shown}
 use Rattle.model.specs.WellFormed.{ClassOk}
 use Rattle.model.proofs.Classes.{large-chunks, own-few}
 use Rattle.rules.specs.Rules.{freeIn}
-use Rattle.map_count.specs.Popcount.{mapBits}
+use Rattle.map_count.specs.Mirror.{mapBits}
 use Rattle.map_count.proofs.Counts.{count-join}
 
 -- ---- sums

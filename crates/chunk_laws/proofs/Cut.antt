@@ -15,7 +15,7 @@ use Rattle.base.proofs.Functions.{upd-same, upd-other, upd-out}
 use Rattle.words.specs.Word.{Bytes}
 use Rattle.records.specs.Layout.{noPage}
 use Rattle.records.specs.declared.ClassRecord.{ClassRecord}
-use Rattle.records.specs.Class.{firstTo}
+use Rattle.records.specs.Mirror.{firstTo}
 use Rattle.model.specs.Classes.{own, counted, hasTaken, newMarks}
 use Rattle.model.specs.State.{Page, idle, slab, Run, State, isIdle}
 use Rattle.model.specs.Runs.{fit, carve}
@@ -29,7 +29,7 @@ use Rattle.model.proofs.CutPage.{cut-well}
 use Rattle.image.specs.Image.{Image, paint, setLinks}
 use Rattle.image.specs.Update.{setMap}
 use Rattle.image.proofs.Fits.{Fits}
-use Rattle.lists.specs.Links.{between}
+use Rattle.lists.specs.Mirror.{between}
 use Rattle.lists.specs.Nodes.{firstIn, push}
 use Rattle.lists.proofs.Laws.{Relinked, push-relinked}
 use Rattle.lists.proofs.Paint.{Maybe}
@@ -37,14 +37,14 @@ use Rattle.rules.specs.Drawn.{mapOf, classRecord, stateImage}
 use Rattle.rules.proofs.Fits.{state-fits}
 use Rattle.shows.specs.Shows.{ShowsLinks}
 use Rattle.shows.proofs.Shows.{state-shows}
-use Rattle.run_extents.specs.Extents.{frontPage}
+use Rattle.run_extents.specs.Mirror.{frontPage}
 use Rattle.run_laws.specs.Scene.{Scene}
 use Rattle.run_laws.specs.OnImage.{frontOn}
 use Rattle.run_laws.proofs.Cut.{front-pages, front-class, front-map, front-scene, front-unlisted, front-shows}
 use Rattle.run_laws.proofs.Laws.{front-fits, front-paint}
 use Rattle.run_laws.proofs.Shown.{state-scene}
-use Rattle.classes.specs.Classes.{pageUsed, countPageUsed}
-use Rattle.chunks.specs.Chunks.{classLinks, enlisted, newMapAt, pageCut}
+use Rattle.classes.specs.Mirror.{pageUsed, countPageUsed}
+use Rattle.chunks.specs.Mirror.{classLinks, enlisted, newMapAt, pageCut}
 use Rattle.drawing.specs.Draw.{inMap, mappedByte, mapped, draw}
 use Rattle.drawing.proofs.Mapped.{length-mapped}
 use Rattle.drawing.proofs.Drawn.{map-small}

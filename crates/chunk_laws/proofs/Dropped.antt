@@ -16,7 +16,7 @@ use Rattle.base.proofs.Count.{count-bound}
 use Rattle.base.proofs.Functions.{upd-same, upd-other, fill-in, fill-out}
 use Rattle.records.specs.Layout.{pagesFrom}
 use Rattle.records.specs.declared.ClassRecord.{ClassRecord}
-use Rattle.records.specs.Class.{firstTo}
+use Rattle.records.specs.Mirror.{firstTo}
 use Rattle.model.specs.Classes.{chunks, own, counted, hasClear, hasTaken}
 use Rattle.model.specs.State.{Page, idle, slab, State, isIdle}
 use Rattle.model.specs.Runs.{joinRuns, startsAt, endsAt}
@@ -42,11 +42,11 @@ use Rattle.run_laws.specs.Scene.{Scene}
 use Rattle.run_laws.specs.OnImage.{releasedOn}
 use Rattle.run_laws.proofs.Join.{released-pages, released-class, released-map, released-shows}
 use Rattle.run_laws.proofs.Laws.{released-paint}
-use Rattle.run_neighbours.specs.Release.{pagesReleased}
+use Rattle.run_neighbours.specs.Mirror.{pagesReleased}
 use Rattle.classes.proofs.Numbers.{own-past}
-use Rattle.classes.specs.Classes.{mapWord, pageBack, countPageBack}
-use Rattle.map_occupancy.specs.Occupancy.{lastTaken}
-use Rattle.chunks.specs.Chunks.{delisted, pageDropped, chunkFreed}
+use Rattle.classes.specs.Mirror.{mapWord, pageBack, countPageBack}
+use Rattle.map_occupancy.specs.Mirror.{lastTaken}
+use Rattle.chunks.specs.Mirror.{delisted, pageDropped, chunkFreed}
 use Rattle.drawing.specs.Draw.{mapHas, mapByte, mapped, draw}
 use Rattle.drawing.proofs.Mapped.{length-mapped, mapped-map, mapped-is}
 use Rattle.drawing.proofs.Drawn.{map-small}

@@ -21,7 +21,7 @@ use Rattle.model.specs.WellFormed.{WellFormed}
 use Rattle.model.proofs.Lists.{open-slab, open-other}
 use Rattle.model.proofs.FreeChunk.{kept-well}
 use Rattle.image.specs.Image.{Image, paint, setLinks}
-use Rattle.lists.specs.Links.{between}
+use Rattle.lists.specs.Mirror.{between}
 use Rattle.lists.specs.Nodes.{firstIn, push}
 use Rattle.lists.proofs.Laws.{Relinked, push-relinked}
 use Rattle.lists.proofs.Paint.{Maybe}
@@ -30,9 +30,9 @@ use Rattle.rules.proofs.Fits.{state-fits}
 use Rattle.shows.specs.Shows.{Unlisted}
 use Rattle.shows.proofs.Shows.{state-shows, not-start, not-listed}
 use Rattle.run_laws.proofs.Shown.{state-scene}
-use Rattle.classes.specs.Classes.{mapWord, chunkBack, countBack}
-use Rattle.map_occupancy.specs.Occupancy.{isFull}
-use Rattle.chunks.specs.Chunks.{classLinks, fullReturns, chunkKept, chunkFreed}
+use Rattle.classes.specs.Mirror.{mapWord, chunkBack, countBack}
+use Rattle.map_occupancy.specs.Mirror.{isFull}
+use Rattle.chunks.specs.Mirror.{classLinks, fullReturns, chunkKept, chunkFreed}
 use Rattle.drawing.specs.Draw.{mapped, draw}
 use Rattle.chunk_laws.specs.Midway.{midway}
 use Rattle.chunk_laws.proofs.Counts.{used-bump}

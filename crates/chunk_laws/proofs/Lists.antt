@@ -18,7 +18,7 @@ use Rattle.records.specs.declared.Links.{Links}
 use Rattle.model.specs.State.{Page, idle, slab, taken, inside, edge, Run}
 use Rattle.image.specs.Image.{Image, paint}
 use Rattle.image.proofs.Fits.{Fits}
-use Rattle.lists.specs.Links.{between}
+use Rattle.lists.specs.Mirror.{between}
 use Rattle.lists.specs.Nodes.{firstIn, prevOf, Listed, unlink, push}
 use Rattle.lists.proofs.Laws.{unlink-listed, push-listed, unlink-off, push-off, unlink-others, push-others, unlink-relinked, push-relinked}
 use Rattle.lists.proofs.Paint.{Maybe, push-paint}
@@ -26,7 +26,7 @@ use Rattle.rules.specs.Drawn.{starts, links, pageLinks}
 use Rattle.shows.specs.Shows.{Unlisted, ShowsOn, ShowsLinks}
 use Rattle.run_laws.specs.Scene.{Scene}
 use Rattle.run_laws.proofs.Shown.{start-free}
-use Rattle.chunks.specs.Chunks.{listOf, classLinks, enlisted}
+use Rattle.chunks.specs.Mirror.{listOf, classLinks, enlisted}
 
 -- ---- what a page shows of a list
 

@@ -34,7 +34,7 @@ use Rattle.image.proofs.Fits.{Fits}
 use Rattle.image.proofs.Paint.{paint-ext, length-paint, map-paint, map-shown, byte-paint, byte-shown}
 use Rattle.rules.specs.Bytes.{mapBase}
 use Rattle.rules.specs.Drawn.{mapOf}
-use Rattle.map_count.specs.Popcount.{mapBits}
+use Rattle.map_count.specs.Mirror.{mapBits}
 use Rattle.classes.proofs.Numbers.{base-paged, base-recorded}
 use Rattle.drawing.specs.Draw.{mapHas, mapByte, inMap, mapped}
 use Rattle.drawing.proofs.Mapped.{map-before, map-at, length-mapped, mapped-kept, mapped-keeps, mapped-map, mapped-is}

@@ -13,7 +13,8 @@ use Rattle.base.proofs.Cases.{eq?}
 use Rattle.base.proofs.Functions.{upd-same, upd-other}
 use Rattle.records.specs.Layout.{noPage}
 use Rattle.records.specs.declared.ClassRecord.{ClassRecord}
-use Rattle.records.specs.Class.{firstTo, classAt, withClass}
+use Rattle.records.specs.Class.{classAt, withClass}
+use Rattle.records.specs.Mirror.{firstTo}
 use Rattle.records.proofs.Laws.{first-fits}
 use Rattle.model.specs.State.{State}
 use Rattle.model.specs.View.{usedOf, shown}

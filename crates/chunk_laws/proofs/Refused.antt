@@ -14,7 +14,7 @@ use Rattle.model.proofs.Tallies.{failed-ok}
 use Rattle.image.specs.Image.{paint}
 use Rattle.rules.specs.Drawn.{stateImage}
 use Rattle.rules.proofs.Fits.{state-fits}
-use Rattle.classes.specs.Classes.{noneUsed, chunkRefused}
+use Rattle.classes.specs.Mirror.{noneUsed, chunkRefused}
 use Rattle.drawing.specs.Draw.{inMap, mappedByte, mapped, draw}
 use Rattle.drawing.proofs.Mapped.{length-mapped}
 use Rattle.chunk_laws.proofs.Next.{class-drawn, class-same, counts-drawn}

@@ -19,7 +19,8 @@ use Rattle.words.specs.Word.{Bytes}
 use Rattle.records.specs.Layout.{noPage}
 use Rattle.records.specs.declared.Links.{Links}
 use Rattle.records.specs.declared.ClassRecord.{ClassRecord}
-use Rattle.records.specs.Class.{firstTo, classAt, withClass}
+use Rattle.records.specs.Class.{classAt, withClass}
+use Rattle.records.specs.Mirror.{firstTo}
 use Rattle.model.specs.Classes.{chunks, own, lowest, hasClear, hasTaken}
 use Rattle.model.specs.State.{Page, slab, Run, Tally, State}
 use Rattle.model.specs.View.{usedOn, usedOf, shown}
@@ -33,7 +34,7 @@ use Rattle.image.specs.Image.{Image, paint}
 use Rattle.image.specs.Update.{setMap}
 use Rattle.image.proofs.Fits.{Fits}
 use Rattle.image.proofs.Paint.{links-shown, length-paint}
-use Rattle.lists.specs.Links.{between}
+use Rattle.lists.specs.Mirror.{between}
 use Rattle.lists.specs.Nodes.{prevOf, unlink}
 use Rattle.lists.proofs.Paint.{Maybe, small, fits-prev, fits-next, unlink-paint}
 use Rattle.rules.specs.Drawn.{pageLinks, onList, mapOf, stateImage}
@@ -43,13 +44,13 @@ use Rattle.shows.proofs.Shows.{state-shows, not-start}
 use Rattle.shows.specs.Shows.{Unlisted, ShowsOn, ShowsLinks}
 use Rattle.run_laws.specs.Scene.{Scene}
 use Rattle.run_laws.proofs.Shown.{state-scene}
-use Rattle.map_count.specs.Popcount.{mapBits}
-use Rattle.classes.specs.Classes.{mapWord}
+use Rattle.map_count.specs.Mirror.{mapBits}
+use Rattle.classes.specs.Mirror.{mapWord}
 use Rattle.classes.proofs.Numbers.{word-paged, word-recorded, base-paged, base-recorded}
-use Rattle.map_occupancy.specs.Occupancy.{isFull, lastFree, lastTaken}
+use Rattle.map_occupancy.specs.Mirror.{isFull, lastFree, lastTaken}
 use Rattle.map_occupancy.proofs.Words.{bits-most}
 use Rattle.map_occupancy.proofs.Told.{full-is, last-free-is, last-taken-is}
-use Rattle.chunks.specs.Chunks.{listOf, delisted}
+use Rattle.chunks.specs.Mirror.{listOf, delisted}
 use Rattle.drawing.specs.Draw.{inMap, mappedByte, mapped, draw}
 use Rattle.drawing.proofs.Mapped.{length-mapped, mapped-keeps}
 use Rattle.drawing.proofs.Records.{paint-keeps}

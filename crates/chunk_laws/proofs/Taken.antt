@@ -29,9 +29,9 @@ use Rattle.rules.proofs.Fits.{state-fits}
 use Rattle.shows.specs.Shows.{Unlisted, ShowsLinks}
 use Rattle.run_laws.proofs.Starts.{keep-every}
 use Rattle.run_laws.proofs.Cut.{shows-written}
-use Rattle.classes.specs.Classes.{mapWord, chunkUsed, countUsed}
-use Rattle.map_occupancy.specs.Occupancy.{lastFree}
-use Rattle.chunks.specs.Chunks.{classLinks, setAside, fullLeaves, chunkTaken}
+use Rattle.classes.specs.Mirror.{mapWord, chunkUsed, countUsed}
+use Rattle.map_occupancy.specs.Mirror.{lastFree}
+use Rattle.chunks.specs.Mirror.{classLinks, setAside, fullLeaves, chunkTaken}
 use Rattle.drawing.specs.Draw.{mapped, draw}
 use Rattle.chunk_laws.specs.Midway.{midway}
 use Rattle.chunk_laws.proofs.Counts.{used-bump}

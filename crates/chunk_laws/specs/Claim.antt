@@ -15,8 +15,8 @@ use Rattle.maps.specs.Bitmap.{withMark}
 use Rattle.maps.specs.Mirror.{lowestClear}
 use Rattle.rules.specs.Bytes.{pagesIn, mapBase}
 use Rattle.drawing.specs.Draw.{draw}
-use Rattle.classes.specs.Classes.{chunkRefused}
-use Rattle.chunks.specs.Chunks.{chunkTaken, pageCut, chunkFreed}
+use Rattle.classes.specs.Mirror.{chunkRefused}
+use Rattle.chunks.specs.Mirror.{chunkTaken, pageCut, chunkFreed}
 
 pub record Laws (w : ℕ) (s : List ℕ) (m : State) : Type 0 where
   pub refused : (c : ℕ) → c ≤ 8 → chunkRefused w (draw w s m) c ≡ draw w s (tallied m c)

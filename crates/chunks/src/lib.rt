@@ -4,7 +4,7 @@ use records::Links;
 use records::NO_PAGE;
 use records::PageNumber;
 ghost use mathlib.Core.Path.{_≡_};
-ghost use Rattle.chunks.specs.Chunks.{listOf, classLinks};
+ghost use Rattle.chunks.specs.Mirror.{listOf, classLinks};
 
 pub fn list_of(c: u8) -> u8
     ensures { λ r. ⌜ r ≡ listOf c ⌝ }

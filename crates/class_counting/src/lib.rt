@@ -6,7 +6,7 @@ use records::MOST_ASKS;
 ghost use mathlib.Core.Path.{_≡_};
 ghost use Prim.Native.Nat.{_+_, _-_, _%_};
 ghost use Rattle.model.specs.Calls.{raise};
-ghost use Rattle.classes.specs.Classes.{chunkAsked, chunkUsed, chunkBack, countUsed, countPageUsed, countBack, countPageBack, chunkRefused};
+ghost use Rattle.classes.specs.Mirror.{chunkAsked, chunkUsed, chunkBack, countUsed, countPageUsed, countBack, countPageBack, chunkRefused};
 
 // One more, or stopped.
 fn raised(n: u32) -> u32

@@ -2,7 +2,7 @@
 // `w` is the number of words of a class record.
 use records::PageNumber;
 ghost use mathlib.Core.Path.{_≡_};
-ghost use Rattle.chunks.specs.Chunks.{delisted, setAside, enlisted, fullLeaves, fullReturns};
+ghost use Rattle.chunks.specs.Mirror.{delisted, setAside, enlisted, fullLeaves, fullReturns};
 
 // Page p leaves the list of class c.
 pub fn delist(pool: &mut [u8], w: u8, c: u8, p: PageNumber)

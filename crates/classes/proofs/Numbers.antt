@@ -16,8 +16,8 @@ use Rattle.model.specs.Classes.{chunks, own}
 use Rattle.model.specs.State.{most}
 use Rattle.model.specs.Calls.{raise}
 use Rattle.rules.specs.Bytes.{mapBase}
-use Rattle.map_count.specs.Popcount.{mapBits}
-use Rattle.classes.specs.Classes.{mapWord, ownWord}
+use Rattle.map_count.specs.Mirror.{mapBits}
+use Rattle.classes.specs.Mirror.{mapWord, ownWord}
 
 pub chunks-some : (c : ℕ) → 1 ≤ chunks c
 unfolding chunks

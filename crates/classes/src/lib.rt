@@ -2,8 +2,8 @@
 ghost use mathlib.Core.Path.{_≡_};
 ghost use Prim.Native.Nat.{_/_, _≤_};
 ghost use Rattle.model.specs.Classes.{chunks, own, counted};
-ghost use Rattle.map_count.specs.Popcount.{mapBits};
-ghost use Rattle.classes.specs.Classes.{ownWord};
+ghost use Rattle.map_count.specs.Mirror.{mapBits};
+ghost use Rattle.classes.specs.Mirror.{ownWord};
 
 // The chunks that a page of class c is cut into, where the caller knows that c is a class.
 pub fn class_chunks(c: u8) -> u16
@@ -22,7 +22,8 @@ pub fn chunk_count(c: u8) -> u16
 
 // The chunks that the map itself takes.
 pub fn own_count(c: u8) -> u16
-    ensures { λ r. ⌜ (r ≡ own c) × (r ≤ 8) ⌝ }
+    ensures answer { λ r. ⌜ r ≡ own c ⌝ }
+    ensures bound { λ r. ⌜ r ≤ 8 ⌝ }
 {
     match c {
         0 => 8,
@@ -46,7 +47,8 @@ pub fn own_word(c: u8) -> u64
 
 // The bytes of a map: in a page a bit for each chunk, in a record 8.
 pub fn map_bytes(c: u8) -> u16
-    ensures { λ r. ⌜ (r ≡ mapBits c / 8) × (8 ≤ r) ⌝ }
+    ensures answer { λ r. ⌜ r ≡ mapBits c / 8 ⌝ }
+    ensures bound { λ r. ⌜ 8 ≤ r ⌝ }
 {
     match c {
         0 => 64,

@@ -11,7 +11,8 @@ ghost use Rattle.answer_words.specs.Word.{wordOf};
 // Makes a pool of a slice: the page count, or the refusal.
 #[no_mangle]
 pub extern "C" fn dnk_format(pool: &mut [u8]) -> u64
-    ensures { λ r. ⌜ (r ≡ wordOf (formats.formatOutcome 2 (length (now (pool .entry))))) × (now (pool .exit) ≡ formats.formatted 2 (now (pool .entry))) ⌝ }
+    ensures answer { λ r. ⌜ r ≡ wordOf (formats.formatOutcome 2 (length (now (pool .entry)))) ⌝ }
+    ensures slice { λ _. ⌜ now (pool .exit) ≡ formats.formatted 2 (now (pool .entry)) ⌝ }
 {
     answer_words::formatted_word(pool::format(pool))
 }
@@ -27,7 +28,8 @@ pub extern "C" fn dnk_validate(pool: &[u8]) -> u64
 // Takes a block: its offset, or the refusal.
 #[no_mangle]
 pub extern "C" fn dnk_alloc(pool: &mut [u8], size: u32) -> u64
-    ensures { λ r. ⌜ (r ≡ wordOf (answered 2 (now (pool .entry)) (Alloc size))) × (now (pool .exit) ≡ after 2 (now (pool .entry)) (Alloc size)) ⌝ }
+    ensures answer { λ r. ⌜ r ≡ wordOf (answered 2 (now (pool .entry)) (Alloc size)) ⌝ }
+    ensures slice { λ _. ⌜ now (pool .exit) ≡ after 2 (now (pool .entry)) (Alloc size) ⌝ }
 {
     answer_words::allocated_word(pool::alloc(pool, size))
 }
@@ -35,7 +37,8 @@ pub extern "C" fn dnk_alloc(pool: &mut [u8], size: u32) -> u64
 // Gives a block back: 0, or the refusal.
 #[no_mangle]
 pub extern "C" fn dnk_free(pool: &mut [u8], offset: u32) -> u64
-    ensures { λ r. ⌜ (r ≡ wordOf (answered 2 (now (pool .entry)) (Free offset))) × (now (pool .exit) ≡ after 2 (now (pool .entry)) (Free offset)) ⌝ }
+    ensures answer { λ r. ⌜ r ≡ wordOf (answered 2 (now (pool .entry)) (Free offset)) ⌝ }
+    ensures slice { λ _. ⌜ now (pool .exit) ≡ after 2 (now (pool .entry)) (Free offset) ⌝ }
 {
     answer_words::freed_word(pool::free(pool, Offset(offset)))
 }

@@ -16,10 +16,10 @@ use Rattle.model.specs.State.{Run, State, marksOf}
 use Rattle.model.specs.Runs.{fit}
 use Rattle.model.specs.Calls.{Reply, noRoom, refuse, tallied, allocRun, cutPage, markChunk, allocChunk, allocFor, alloc}
 use Rattle.model.proofs.Classes.{class-ok}
-use Rattle.lists.specs.Links.{firstOf}
-use Rattle.run_extents.specs.Extents.{fitIn, runTaken}
-use Rattle.classes.specs.Classes.{chunkRefused}
-use Rattle.chunks.specs.Chunks.{chunkTaken, pageCut}
+use Rattle.lists.specs.Mirror.{firstOf}
+use Rattle.run_extents.specs.Mirror.{fitIn, runTaken}
+use Rattle.classes.specs.Mirror.{chunkRefused}
+use Rattle.chunks.specs.Mirror.{chunkTaken, pageCut}
 use Rattle.run_laws.specs.OnImage.{startOr}
 use Rattle.sizes.proofs.Laws.{class-is}
 use Rattle.alloc_sound.specs.Mirror.{lowestOn, chunkOutcome, chunkSlice, firstOutcome, cutOutcome, cutSlice, newOutcome, newSlice, fromOutcome, fromSlice, classOutcome, classSlice, runOutcome, runSlice, pagesOutcome, pagesSlice, allocOutcome, allocSlice}

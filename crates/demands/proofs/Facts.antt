@@ -26,7 +26,7 @@ use Rattle.model.specs.Runs.{fit}
 use Rattle.model.proofs.Runs.{fit-found}
 use Rattle.model.proofs.Lists.{open-is}
 use Rattle.image.proofs.Paint.{links-shown}
-use Rattle.lists.specs.Links.{firstOf}
+use Rattle.lists.specs.Mirror.{firstOf}
 use Rattle.lists.specs.Nodes.{firstIn}
 use Rattle.lists.proofs.Paint.{first-shown}
 use Rattle.rules.specs.Drawn.{stateImage, stateFields, pageLinks}
@@ -38,7 +38,7 @@ use Rattle.drawing.proofs.Mapped.{length-mapped}
 use Rattle.drawing.proofs.Drawn.{drawn-shows}
 use Rattle.drawing.proofs.Laws.{claims as laws-of}
 use Rattle.shows.proofs.Shows.{listed-low}
-use Rattle.run_extents.specs.Extents.{fitIn}
+use Rattle.run_extents.specs.Mirror.{fitIn}
 use Rattle.run_laws.specs.OnImage.{startOr}
 use Rattle.run_laws.proofs.Drawn.{fit-drawn}
 use Rattle.alloc_sound.specs.Mirror.{lowestOn}

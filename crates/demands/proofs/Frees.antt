@@ -20,8 +20,8 @@ use Rattle.model.specs.Runs.{startsAt}
 use Rattle.model.specs.Calls.{outside, notTaken, notAStart, refuse, release, freeChunk, freeAt, free}
 use Rattle.rules.specs.Bytes.{pagesIn, mapBase}
 use Rattle.rules.specs.Drawn.{links, freeLinks, pageLinks}
-use Rattle.run_neighbours.specs.Release.{pagesReleased}
-use Rattle.chunks.specs.Chunks.{chunkFreed}
+use Rattle.run_neighbours.specs.Mirror.{pagesReleased}
+use Rattle.chunks.specs.Mirror.{chunkFreed}
 use Rattle.locate.specs.Mirror.{marked, markFound, pastFound, startFound, sizedFound, offsetFound, classFound, runFound, kindFound, pageFound, located}
 use Rattle.free_sound.specs.Mirror.{foundOutcome, foundSlice, freeOutcome, freeSlice}
 use Rattle.drawing.specs.Draw.{draw}

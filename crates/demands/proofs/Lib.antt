@@ -1,11 +1,11 @@
-pub mod Shown
-pub mod Calls
-pub mod Turns
-pub mod Corollaries
-pub mod BookCorollaries
-pub mod Demands
-pub mod Examples
-pub mod Allocs
-pub mod Frees
-pub mod Facts
-pub mod Steps
+pub mod Shown  -- a sound pool's records show what its state shows
+pub mod Calls  -- one call on the bytes of a pool
+pub mod Turns  -- demand 3 on the bytes of a pool
+pub mod Corollaries  -- on sound records
+pub mod BookCorollaries  -- what follows from demand 3 at each point of a list of turns, by the live set alone
+pub mod Demands  -- the three demands together
+pub mod Examples  -- the starred examples on bytes, by the demands and the model's examples
+pub mod Allocs  -- alloc on the bytes of a sound pool does what the model does, given what each operation does
+pub mod Frees  -- free on the bytes of a sound pool does what the model does, given what each operation does
+pub mod Facts  -- what reading the bytes of a sound pool gives, in the words of its state
+pub mod Steps  -- the code's steps on the bytes of a sound pool give the answer and the slice that the calls promise

@@ -25,10 +25,10 @@ use Rattle.model.proofs.Classes.{chunk-index}
 use Rattle.rules.specs.Bytes.{pagesIn, mapBase, brokenRule, read}
 use Rattle.drawing.specs.Draw.{draw}
 use Rattle.drawing.specs.Claim.{Fitting}
-use Rattle.chunks.specs.Chunks.{chunkTaken, pageCut, chunkFreed}
-use Rattle.classes.specs.Classes.{chunkRefused}
-use Rattle.run_extents.specs.Extents.{runTaken}
-use Rattle.run_neighbours.specs.Release.{pagesReleased}
+use Rattle.chunks.specs.Mirror.{chunkTaken, pageCut, chunkFreed}
+use Rattle.classes.specs.Mirror.{chunkRefused}
+use Rattle.run_extents.specs.Mirror.{runTaken}
+use Rattle.run_neighbours.specs.Mirror.{pagesReleased}
 use Rattle.chunk_laws.specs.Claim.{Laws}
 use Rattle.chunk_laws.proofs.Laws.{claims as chunk-laws}
 use Rattle.run_laws.proofs.Drawn.{run-taken, run-released}

@@ -21,7 +21,7 @@ outcome (freed n) = granted 0
 outcome (no k) = record { number = k; value = 0 }
 
 -- unsound records are refused with 3; on sound ones the model answers
-unfoldable pub answered : ℕ → List ℕ → Call → Outcome
+unfoldable pub answered : (w : ℕ) (s : List ℕ) (call : Call) → Outcome
 answered w s call = pick (eqb (brokenRule w s) 0) (outcome (step (read w s) call .answer)) (refused NotSound)
 
 -- The last chunk of a page that is freed has its mark cleared, and the mark stays cleared in the bytes of the page, which is free then.
@@ -41,5 +41,5 @@ cleared w s (Alloc n) = s
 cleared w s (Free off) = clearedAt w s (off / 4096) (off % 4096) (read w s .page (off / 4096))
 
 -- unsound records stay as they are; on sound ones the model's next state is drawn
-unfoldable pub after : ℕ → List ℕ → Call → List ℕ
+unfoldable pub after : (w : ℕ) (s : List ℕ) (call : Call) → List ℕ
 after w s call = pick (eqb (brokenRule w s) 0) (draw w (cleared w s call) (step (read w s) call .after)) s

@@ -33,7 +33,7 @@ numberIn (denied k) = k
 -- ---- demand 1: every call answers; refusals change nothing
 
 -- the block is live in the state that the records show
-abbrev pub liveIn : ℕ → List ℕ → Block → Type 0
+abbrev pub liveIn : (w : ℕ) (s : List ℕ) (e : Block) → Type 0
 liveIn w s e = Live (read w s .page) e
 
 pub record Demand1 (w : ℕ) (s : List ℕ) : Type 0 where
@@ -73,7 +73,7 @@ pub record Demand2 (w : ℕ) (s : List ℕ) (sound : brokenRule w s ≡ 0) : Typ
 -- ---- demand 3: one claim about the whole list
 
 -- what s may have become before a call: callers' bytes and the tail any others, length, header, records and maps as the last call left them
-abbrev pub Rewritten : ℕ → List ℕ → List ℕ → Type 0
+abbrev pub Rewritten : (w : ℕ) (s u : List ℕ) → Type 0
 Rewritten w s u = SameRecords w s u × Bytes u
 
 -- a call, and what the slice holds when it is made
@@ -127,7 +127,7 @@ pub record Faithful (w P : ℕ) (B : List Block) (s : List ℕ) : Type 0 where
   pub ruled : (call : Call) → answered w s call .number ≡ numberIn (ruling (expected P B) call)
 
 -- after any list of turns from what format leaves of any slice that it accepts
-abbrev pub Demand3 : ℕ → List ℕ → Type 0
+abbrev pub Demand3 : (w : ℕ) (s : List ℕ) → Type 0
 Demand3 w s = (B : List Block) (u : List ℕ) → Reached w s B u → Faithful w (pagesIn w s) B u
 
 -- ---- what follows from demand 3, with live blocks from calls and answers alone

@@ -1,4 +1,4 @@
-pub mod Calls
-pub mod Shown
-pub mod Demands
-pub mod Examples
+pub mod Calls  -- what alloc and free answer and leave (SPEC 4), for every content of the slice
+pub mod Shown  -- what a pool shows in its records
+pub mod Demands  -- the three demands on the bytes of a pool, each citing definitions only
+pub mod Examples  -- the examples of SPEC 9.1 and the worked case on bytes

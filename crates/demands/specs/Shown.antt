@@ -10,7 +10,7 @@ use Rattle.rules.specs.Fields.{Fields, run, pageAt}
 use Rattle.rules.specs.Read.{isHead}
 use Rattle.rules.specs.Bytes.{pagesIn, fieldsOf}
 
-unfoldable pub fieldView : Fields → ℕ → View
+unfoldable pub fieldView : (v : Fields) (n : ℕ) → View
 fieldView v n = record {
   size = n;
   freeRun = λ p. pick (isHead v n p) (run v p) 0;
@@ -20,5 +20,5 @@ fieldView v n = record {
   total = λ c. pick (ltb c 9) (v .image .class c .total) 0;
 }
 
-unfoldable pub shownBy : ℕ → List ℕ → View
+unfoldable pub shownBy : (w : ℕ) (s : List ℕ) → View
 shownBy w s = fieldView (fieldsOf w s) (pagesIn w s)

@@ -21,15 +21,15 @@ mapHas inside j = false
 mapHas edge j = false
 
 -- byte j of a page's map
-unfoldable pub mapByte : Page → ℕ → ℕ
+unfoldable pub mapByte : (x : Page) (j : ℕ) → ℕ
 mapByte x j = bitsOf (λ i. marksOf x (8 * j + i)) 8
 
 -- byte i of a pool, the pages of which begin at `from`, belongs to a map that lies in a page
-unfoldable pub inMap : ℕ → State → ℕ → Bool
+unfoldable pub inMap : (from : ℕ) (m : State) (i : ℕ) → Bool
 inMap from m i = pick (ltb i from) false (mapHas (m .page ((i - from) / 4096)) ((i - from) % 4096))
 
 -- byte i with those maps written over s
-unfoldable pub mappedByte : ℕ → State → List ℕ → ℕ → ℕ
+unfoldable pub mappedByte : (from : ℕ) (m : State) (s : List ℕ) (i : ℕ) → ℕ
 mappedByte from m s i = pick (inMap from m i) (mapByte (m .page ((i - from) / 4096)) ((i - from) % 4096)) (getD s i 0)
 
 -- a list of n elements by their places
@@ -37,8 +37,8 @@ unfoldable pub tab : {A : Type 0} → ℕ → (ℕ → A) → List A
 tab zero h = []
 tab (suc n) h = h zero ∷ tab n (λ k. h (suc k))
 
-unfoldable pub mapped : ℕ → State → List ℕ → List ℕ
+unfoldable pub mapped : (w : ℕ) (m : State) (s : List ℕ) → List ℕ
 mapped w m s = tab (length s) (mappedByte (pagesFrom w (m .size)) m s)
 
-unfoldable pub draw : ℕ → List ℕ → State → List ℕ
+unfoldable pub draw : (w : ℕ) (s : List ℕ) (m : State) → List ℕ
 draw w s m = paint w (m .size) (stateImage m) (mapped w m s)

@@ -21,7 +21,7 @@ shortest w = 8 + 72 * w + 4112
 abbrev pub tooLong : ℕ → ℕ
 tooLong w = 8 + 72 * w + 4112 * (maxPages + 1)
 
-unfoldable pub formatOutcome : ℕ → ℕ → Outcome
+unfoldable pub formatOutcome : (w len : ℕ) → Outcome
 formatOutcome w len =
     pick (ltb len (shortest w)) (refused TooShort) (pick (leb (tooLong w) len) (refused TooLong) (granted (pageCount w len)))
 
@@ -44,7 +44,7 @@ unfoldable pub freshImage : ℕ → Image
 freshImage P = setLinks (setLinks (allFree P) (P - 1) (insideFree 0)) 0 (firstFree P)
 
 -- header, class records and page records are written; page bytes and tail stay
-unfoldable pub formatted : ℕ → List ℕ → List ℕ
+unfoldable pub formatted : (w : ℕ) (s : List ℕ) → List ℕ
 formatted w s =
     pick (ltb (length s) (shortest w)) s
     (pick (leb (tooLong w) (length s)) s (paint w (pageCount w (length s)) (freshImage (pageCount w (length s))) s))

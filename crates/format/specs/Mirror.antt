@@ -9,18 +9,18 @@ use Rattle.image.specs.Image.{headerOf, writeAt}
 use Rattle.format.specs.Format.{insideFree, firstFree}
 
 -- n words, `step` apart from `from` on
-unfoldable pub filled : List ℕ → ℕ → ℕ → ℕ → ℕ → List ℕ
+unfoldable pub filled : (s : List ℕ) (from step n v : ℕ) → List ℕ
 filled s from step n v = writeAt (λ i. from + step * i) n (λ i. v) s
 
-unfoldable pub classesCleared : ℕ → List ℕ → List ℕ
+unfoldable pub classesCleared : (w : ℕ) (s : List ℕ) → List ℕ
 classesCleared w s = filled (filled s 1 w 9 (packCounts emptyClass)) 2 w 9 (packTally emptyClass)
 
-unfoldable pub pagesCleared : ℕ → ℕ → List ℕ → List ℕ
+unfoldable pub pagesCleared : (w P : ℕ) (s : List ℕ) → List ℕ
 pagesCleared w P s = filled (filled s (1 + 9 * w) 2 P 0) (2 + 9 * w) 2 P (packLinks (insideFree noPage))
 
 -- the pages become one free run
-unfoldable pub runLinked : ℕ → ℕ → List ℕ → List ℕ
+unfoldable pub runLinked : (w P : ℕ) (s : List ℕ) → List ℕ
 runLinked w P s = withLinks w (withLinks w s (P - 1) (insideFree 0)) 0 (firstFree P)
 
-unfoldable pub written : ℕ → ℕ → List ℕ → List ℕ
+unfoldable pub written : (w P : ℕ) (s : List ℕ) → List ℕ
 written w P s = runLinked w P (pagesCleared w P (classesCleared w (withHeader s (headerOf w P P 0))))

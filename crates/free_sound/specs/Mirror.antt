@@ -2,8 +2,8 @@
 use Prim.Native.Nat.{ℕ, _%_}
 use mathlib.Core.List.{List}
 use Rattle.answers.specs.Outcome.{Outcome, granted, refused}
-use Rattle.run_neighbours.specs.Release.{pagesReleased}
-use Rattle.chunks.specs.Chunks.{chunkFreed}
+use Rattle.run_neighbours.specs.Mirror.{pagesReleased}
+use Rattle.chunks.specs.Mirror.{chunkFreed}
 use Rattle.locate.specs.declared.Found.{Found}
 use Rattle.locate.specs.declared.Found.the-variants as found
 use Rattle.locate.specs.Mirror.{located}

@@ -9,8 +9,8 @@ use records::PageNumber;
 ghost use mathlib.Core.Path.{_≡_};
 ghost use Prim.Native.Nat.{_%_};
 ghost use Rattle.answers.specs.Outcome.{granted, ofFree};
-ghost use Rattle.chunks.specs.Chunks.{chunkFreed};
-ghost use Rattle.run_neighbours.specs.Release.{pagesReleased};
+ghost use Rattle.chunks.specs.Mirror.{chunkFreed};
+ghost use Rattle.run_neighbours.specs.Mirror.{pagesReleased};
 ghost use Rattle.free_sound.specs.Mirror.{foundOutcome, foundSlice, freeOutcome, freeSlice};
 
 pub fn free_sound(pool: &mut [u8], w: u8, pages: u16, at: Offset) -> Freed

@@ -1,4 +1,4 @@
-pub mod Places
-pub mod Write
-pub mod Paint
-pub mod Fits
+pub mod Places  -- no two records share a word, whatever the width of a class record
+pub mod Write  -- strided writes of words
+pub mod Paint  -- what each store does to a painted image, and what a painted image shows
+pub mod Fits  -- an image whose fields are numbers of their widths, and that its changes keep it so

@@ -14,9 +14,10 @@ use Rattle.words.proofs.Stores.{setWord-same, set-setWord}
 use Rattle.records.specs.Layout.{countsPlace, tallyPlace, mapPlace, linksPlace, pagesFrom}
 use Rattle.records.specs.declared.ClassRecord.{ClassRecord}
 use Rattle.records.specs.declared.Links.{Links}
-use Rattle.records.specs.Header.{HeaderFits, packHeader, unpackHeader, headerAt, withHeader}
-use Rattle.records.specs.Class.{ClassFits, packCounts, packTally, classAt, withClass}
-use Rattle.records.specs.Page.{LinksFit, packLinks, unpackLinks, linksAt, withLinks}
+use Rattle.records.specs.Header.{packHeader, unpackHeader, headerAt, withHeader}
+use Rattle.records.specs.Fits.{HeaderFits, ClassFits, LinksFit}
+use Rattle.records.specs.Class.{packCounts, packTally, classAt, withClass}
+use Rattle.records.specs.Page.{packLinks, unpackLinks, linksAt, withLinks}
 use Rattle.records.proofs.Laws.{unpack-pack-header, unpack-pack-class, unpack-pack-links}
 use Rattle.image.specs.Image.{Image, headerOf, writeAt, paint, Same, setLinks}
 use Rattle.image.specs.Update.{setFree, setFirstRun, setClass, setMap}

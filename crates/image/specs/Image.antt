@@ -22,14 +22,14 @@ pub record Image : Type 0 where
   pub links : ℕ → Links
 
 -- with other links, of all pages or of page p
-abbrev pub setAllLinks : Image → (ℕ → Links) → Image
+abbrev pub setAllLinks : (I : Image) (f : (ℕ → Links)) → Image
 setAllLinks I f = record { freePages = I .freePages; firstRun = I .firstRun; class = I .class; map = I .map; links = f }
 
-abbrev pub setLinks : Image → ℕ → Links → Image
+abbrev pub setLinks : (I : Image) (p : ℕ) (l : Links) → Image
 setLinks I p l = setAllLinks I (upd (I .links) p l)
 
 -- edition 1 has class records of 2 words, smallest shift 3, page shift 12
-abbrev pub headerOf : ℕ → ℕ → ℕ → ℕ → Header
+abbrev pub headerOf : (w P free first : ℕ) → Header
 headerOf w P free first =
     record {
       edition = w - 1;
@@ -46,7 +46,7 @@ writeAt at zero f s = s
 writeAt at (suc n) f s = setWord (writeAt at n f s) (at n) (f n)
 
 -- s with the records of P pages that the image says
-unfoldable pub paint : ℕ → ℕ → Image → List ℕ → List ℕ
+unfoldable pub paint : (w P : ℕ) (I : Image) (s : List ℕ) → List ℕ
 paint w P I s =
     writeAt (linksPlace w) P (λ p. packLinks (I .links p))
     (writeAt (mapPlace w) P (I .map)

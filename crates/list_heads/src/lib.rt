@@ -4,7 +4,7 @@ use records::PageNumber;
 ghost use mathlib.Core.Path.{_≡_};
 ghost use Rattle.records.specs.Header.{headerAt};
 ghost use Rattle.records.specs.Class.{classAt};
-ghost use Rattle.lists.specs.Links.{firstOf, withFirstRun, withFirstPage, withFirst};
+ghost use Rattle.lists.specs.Mirror.{firstOf, withFirstRun, withFirstPage, withFirst};
 
 fn first_run(pool: &[u8]) -> PageNumber
     ensures { λ r. ⌜ r .0 ≡ headerAt (now (pool .entry)) .«first_run» .0 ⌝ }

@@ -3,7 +3,7 @@ use records::Links;
 use records::NO_PAGE;
 use records::PageNumber;
 ghost use mathlib.Core.Path.{_≡_};
-ghost use Rattle.lists.specs.Links.{between, linkedNext, linkedPrev, withNext, withPrev};
+ghost use Rattle.lists.specs.Mirror.{between, linkedNext, linkedPrev, withNext, withPrev};
 
 // The kind, class and run of l, between two pages.
 pub fn between_pages(l: Links, prev: PageNumber, next: PageNumber) -> Links

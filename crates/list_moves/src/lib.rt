@@ -3,7 +3,7 @@ use records::Links;
 use records::NO_PAGE;
 use records::PageNumber;
 ghost use mathlib.Core.Path.{_≡_};
-ghost use Rattle.lists.specs.Links.{unlinked, pushedBefore, pushed, replaced};
+ghost use Rattle.lists.specs.Mirror.{unlinked, pushedBefore, pushed, replaced};
 
 // The page with the links l leaves the list.
 pub fn unlink(pool: &mut [u8], w: u8, list: u8, l: Links)

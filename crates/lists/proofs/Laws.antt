@@ -15,9 +15,9 @@ use Rattle.base.proofs.Neighbours.{next-on, prev-on}
 use Rattle.base.proofs.Links.{linked-frame, linked-left, linked-pushed, linked-put}
 use Rattle.records.specs.Layout.{noPage}
 use Rattle.records.specs.declared.Links.{Links}
-use Rattle.records.specs.Class.{firstTo}
+use Rattle.records.specs.Mirror.{firstTo}
 use Rattle.image.specs.Image.{Image, setLinks}
-use Rattle.lists.specs.Links.{between, nextTo, prevTo}
+use Rattle.lists.specs.Mirror.{between, nextTo, prevTo}
 use Rattle.lists.specs.Nodes.{head, firstIn, nextOf, prevOf, Listed, putFirst, putNext, putPrev, unlink, push, put}
 
 -- ---- next and previous after one store

@@ -13,13 +13,13 @@ use Rattle.records.specs.Layout.{noPage}
 use Rattle.records.specs.declared.Header.{Header}
 use Rattle.records.specs.declared.ClassRecord.{ClassRecord}
 use Rattle.records.specs.declared.Links.{Links}
-use Rattle.records.specs.Class.{firstTo}
-use Rattle.records.specs.Page.{LinksFit}
+use Rattle.records.specs.Mirror.{firstTo}
+use Rattle.records.specs.Fits.{LinksFit}
 use Rattle.records.proofs.Laws.{first-fits}
 use Rattle.image.specs.Image.{Image, paint, setLinks}
 use Rattle.image.proofs.Paint.{paint-ext, links-paint, class-paint, header-paint, links-shown, class-shown, header-shown}
 use Rattle.image.proofs.Fits.{Fits, header-fits, fits-first-run, fits-class, fits-links}
-use Rattle.lists.specs.Links.{between, nextTo, prevTo, firstOf, withFirstRun, withFirstPage, withFirst, linkedNext, linkedPrev, withNext, withPrev, unlinked, pushedBefore, pushed, replaced}
+use Rattle.lists.specs.Mirror.{between, nextTo, prevTo, firstOf, withFirstRun, withFirstPage, withFirst, linkedNext, linkedPrev, withNext, withPrev, unlinked, pushedBefore, pushed, replaced}
 use Rattle.lists.specs.Nodes.{firstIn, putFirst, putNext, putPrev, unlink, push, put}
 
 -- a page of P, or none

@@ -15,7 +15,7 @@ use Rattle.words.specs.Word.{Bytes, word}
 use Rattle.maps.specs.Bitmap.{mark, bitsOf}
 use Rattle.maps.proofs.Words.{word-marks}
 use Rattle.model.specs.Classes.{chunks}
-use Rattle.map_count.specs.Popcount.{mapBits}
+use Rattle.map_count.specs.Mirror.{mapBits}
 
 -- the ones of the number of k marks
 pub ones-bits : (m : ℕ → Bool) (k : ℕ) → Count.ones (bitsOf m k) ≡ count m k

@@ -19,8 +19,8 @@ use Rattle.maps.proofs.Bits.{bits-ext, bits-injective}
 use Rattle.maps.proofs.Words.{word-marks}
 use Rattle.model.specs.Classes.{chunks, own, hasClear, hasTaken}
 use Rattle.model.proofs.Classes.{none-taken, some-taken, large-chunks}
-use Rattle.map_count.specs.Popcount.{mapBits}
-use Rattle.map_occupancy.specs.Occupancy.{marksAre, fullMarks, ownMarks, isFull, lastFree, lastTaken}
+use Rattle.map_count.specs.Mirror.{mapBits}
+use Rattle.map_occupancy.specs.Mirror.{marksAre, fullMarks, ownMarks, isFull, lastFree, lastTaken}
 use Rattle.map_occupancy.proofs.Words.{whole-words}
 
 module _ (s : List ℕ) (B : Bytes s) (k c : ℕ) (inside : k + mapBits c / 64 ≤ length s / 8) (m : ℕ → Bool)

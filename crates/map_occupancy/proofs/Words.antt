@@ -19,10 +19,10 @@ use Rattle.words.specs.Word.{word}
 use Rattle.maps.specs.Bitmap.{bitsOf}
 use Rattle.maps.proofs.Bits.{bits-ext}
 use Rattle.model.specs.Classes.{chunks, own}
-use Rattle.map_count.specs.Popcount.{mapBits}
-use Rattle.classes.specs.Classes.{ownWord}
+use Rattle.map_count.specs.Mirror.{mapBits}
+use Rattle.classes.specs.Mirror.{ownWord}
 use Rattle.classes.proofs.Numbers.{chunks-past, chunks-512, own-past, own-small}
-use Rattle.map_occupancy.specs.Occupancy.{marksAre, fullMarks, ownMarks, isFull, lastFree, lastTaken, expected, wordsAre}
+use Rattle.map_occupancy.specs.Mirror.{marksAre, fullMarks, ownMarks, isFull, lastFree, lastTaken, expected, wordsAre}
 
 -- ---- the words of the classes, by tables; 9 stands for all past 8
 

@@ -6,8 +6,8 @@ ghost use lib.Dec.{eqb};
 ghost use Rattle.base.specs.Tests.{pick};
 ghost use Rattle.words.specs.Word.{word};
 ghost use Rattle.maps.specs.Bitmap.{bitsOf};
-ghost use Rattle.map_count.specs.Popcount.{mapBits};
-ghost use Rattle.map_occupancy.specs.Occupancy.{expected, wordsAre, fullMarks, isFull, lastFree, lastTaken};
+ghost use Rattle.map_count.specs.Mirror.{mapBits};
+ghost use Rattle.map_occupancy.specs.Mirror.{expected, wordsAre, fullMarks, isFull, lastFree, lastTaken};
 
 fn at_most_63(n: u16) -> u16
     ensures { λ r. ⌜ (n ≤ 63 → r ≡ n) × (63 ≤ n → r ≡ 63) × (r ≤ 63) ⌝ }
@@ -25,7 +25,8 @@ fn full_word(c: u8) -> u64
 
 // The words of a map of class c.
 fn word_count(c: u8) -> usize
-    ensures { λ r. ⌜ (r ≡ mapBits c / 64) × (r ≤ 8) ⌝ }
+    ensures answer { λ r. ⌜ r ≡ mapBits c / 64 ⌝ }
+    ensures bound { λ r. ⌜ r ≤ 8 ⌝ }
 {
     let n = classes::map_bytes(c);
     (n / 8) as usize

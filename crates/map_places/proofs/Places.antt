@@ -5,7 +5,7 @@ use Prim.Native.Nat.{ℕ, _+_, _*_, _≤_, _<_}
 use native.Mathlib.Omega.{arith}
 use Rattle.base.proofs.Cases.{lt?}
 use Rattle.rules.specs.Bytes.{mapBase}
-use Rattle.classes.specs.Classes.{mapWord}
+use Rattle.classes.specs.Mirror.{mapWord}
 use Rattle.classes.proofs.Numbers.{word-paged, word-recorded, base-paged, base-recorded}
 
 module _ (w P p c : ℕ) where

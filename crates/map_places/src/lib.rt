@@ -4,19 +4,21 @@ use records::PageNumber;
 ghost use mathlib.Core.Path.{_≡_};
 ghost use Prim.Native.Nat.{_≤_, _<_};
 ghost use Rattle.rules.specs.Bytes.{mapBase};
-ghost use Rattle.classes.specs.Classes.{mapWord};
-ghost use Rattle.map_occupancy.specs.Occupancy.{isFull, lastFree, lastTaken};
+ghost use Rattle.classes.specs.Mirror.{mapWord};
+ghost use Rattle.map_occupancy.specs.Mirror.{isFull, lastFree, lastTaken};
 
 // One of two by where the map lies: in the page, or in its record. The choice is between numbers, so that no branch is made of it.
 fn chosen(c: u8, paged: u16, recorded: u16) -> u16
-    ensures { λ r. ⌜ (c < 3 → r ≡ paged) × (3 ≤ c → r ≡ recorded) ⌝ }
+    ensures small { λ r. ⌜ (c < 3 → r ≡ paged) ⌝ }
+    ensures large { λ r. ⌜ (3 ≤ c → r ≡ recorded) ⌝ }
 {
     if c < 3 { paged } else { recorded }
 }
 
 // The word that the map of page p begins with: at the start of the page, or in its record.
 fn map_word(w: u8, pages: u16, p: PageNumber, c: u8) -> usize
-    ensures { λ r. ⌜ (r ≡ mapWord w pages (p .0) c) × (r < 67108864) ⌝ }
+    ensures answer { λ r. ⌜ r ≡ mapWord w pages (p .0) c ⌝ }
+    ensures bound { λ r. ⌜ r < 67108864 ⌝ }
 {
     let q = p.0;
     let records = chosen(c, pages, q);

@@ -10,11 +10,11 @@ use Rattle.base.specs.Count.{bit}
 use Rattle.base.specs.Functions.{upd}
 
 -- bit j of a byte, from the top
-abbrev pub bitOf : ℕ → ℕ → Bool
+abbrev pub bitOf : (b j : ℕ) → Bool
 bitOf b j = eqb (b / 2 ^ (7 - j) % 2) 1
 
 -- mark i of the map at base
-unfoldable pub mark : List ℕ → ℕ → ℕ → Bool
+unfoldable pub mark : (s : List ℕ) (base i : ℕ) → Bool
 mark s base i = bitOf (getD s (base + i / 8) 0) (i % 8)
 
 -- the first k marks as a number, mark 0 on top
@@ -23,9 +23,9 @@ bitsOf m zero = 0
 bitsOf m (suc k) = 2 * bitsOf m k + bit (m k)
 
 -- a byte with its bit j, from the top, set or clear
-unfoldable pub withBit : ℕ → ℕ → Bool → ℕ
+unfoldable pub withBit : (b j : ℕ) (v : Bool) → ℕ
 withBit b j v = bitsOf (upd (bitOf b) j v) 8
 
 -- the pool with mark i of the map at base set or clear; a mark outside the pool is not written
-unfoldable pub withMark : List ℕ → ℕ → ℕ → Bool → List ℕ
+unfoldable pub withMark : (s : List ℕ) (base i : ℕ) (v : Bool) → List ℕ
 withMark s base i v = set s (base + i / 8) (withBit (getD s (base + i / 8) 0) (i % 8) v)

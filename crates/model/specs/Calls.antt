@@ -40,7 +40,7 @@ notTaken = numberOf NotTaken
 unfoldable pub notAStart : ℕ
 notAStart = numberOf NotAStart
 
-unfoldable pub refuse : State → ℕ → Reply
+unfoldable pub refuse : (s : State) (k : ℕ) → Reply
 refuse s k = record { answer = no k; after = s }
 
 -- ---- format
@@ -83,7 +83,7 @@ allocRun s k (some r) = record {
 }
 
 -- the state after a chunk of class c was refused
-unfoldable pub tallied : State → ℕ → State
+unfoldable pub tallied : (s : State) (c : ℕ) → State
 tallied s c = record {
   size = s .size;
   page = s .page;
@@ -107,7 +107,7 @@ cutPage s c (some r) = record {
 }
 
 -- the lowest free chunk of page p, which has the marks m and is first on the list of class c; a page now full leaves the list
-unfoldable pub markChunk : State → ℕ → ℕ → List ℕ → (ℕ → Bool) → Reply
+unfoldable pub markChunk : (s : State) (c p : ℕ) (rest : List ℕ) (m : (ℕ → Bool)) → Reply
 markChunk s c p rest m =
     let i : ℕ = lowest c m in
     let m′ : ℕ → Bool = upd m i true in
@@ -131,13 +131,13 @@ unfoldable pub allocFor : State → Need → Reply
 allocFor s (chunkOf c) = allocChunk s c (s .lists c)
 allocFor s (pages k) = allocRun s k (fit k (s .runs))
 
-unfoldable pub alloc : State → ℕ → Reply
+unfoldable pub alloc : (s : State) (n : ℕ) → Reply
 alloc s n = allocFor s (needOf n)
 
 -- ---- free
 
 -- k pages from p on become free
-unfoldable pub release : State → ℕ → ℕ → State
+unfoldable pub release : (s : State) (p k : ℕ) → State
 release s p k = record {
   size = s .size;
   page = fill (s .page) p k idle;
@@ -152,7 +152,7 @@ relisted true p l = l
 relisted false p l = p ∷ l
 
 -- chunk i of page p is free again and the page stays a class page
-unfoldable pub keepPage : State → ℕ → ℕ → (ℕ → Bool) → ℕ → State
+unfoldable pub keepPage : (s : State) (p c : ℕ) (m : (ℕ → Bool)) (i : ℕ) → State
 keepPage s p c m i = record {
   size = s .size;
   page = upd (s .page) p (slab c (upd m i false));
@@ -162,7 +162,7 @@ keepPage s p c m i = record {
 }
 
 -- page p has no chunk in a caller's hands: it leaves the list and is released
-unfoldable pub dropPage : State → ℕ → ℕ → (ℕ → Bool) → State
+unfoldable pub dropPage : (s : State) (p c : ℕ) (m : (ℕ → Bool)) → State
 dropPage s p c m =
     release
     (record {
@@ -174,7 +174,7 @@ dropPage s p c m =
     })
     p 1
 
-unfoldable pub freeChunk : State → ℕ → ℕ → (ℕ → Bool) → ℕ → State
+unfoldable pub freeChunk : (s : State) (p c : ℕ) (m : (ℕ → Bool)) (i : ℕ) → State
 freeChunk s p c m i = cond (hasTaken c (upd m i false)) (keepPage s p c m i) (dropPage s p c m)
 
 -- the offset lies q bytes into page p
@@ -191,7 +191,7 @@ freeAt s p q (taken n) =
 freeAt s p q inside = refuse s notAStart
 freeAt s p q edge = refuse s outside
 
-unfoldable pub free : State → ℕ → Reply
+unfoldable pub free : (s : State) (off : ℕ) → Reply
 free s off = freeAt s (off / 4096) (off % 4096) (s .page (off / 4096))
 
 -- ---- a call

@@ -32,22 +32,22 @@ counted c = chunks c
 -- ---- the marks of a class page: a set mark is a chunk in use
 
 -- the lowest clear mark; the number of chunks where there is none
-unfoldable pub lowest : ℕ → (ℕ → Bool) → ℕ
+unfoldable pub lowest : (c : ℕ) (m : (ℕ → Bool)) → ℕ
 lowest c m = least (λ i. not (m i)) (chunks c)
 
-unfoldable pub hasClear : ℕ → (ℕ → Bool) → Bool
+unfoldable pub hasClear : (c : ℕ) (m : (ℕ → Bool)) → Bool
 hasClear c m = any (λ i. not (m i)) (chunks c)
 
 -- a caller holds a chunk
-unfoldable pub hasTaken : ℕ → (ℕ → Bool) → Bool
+unfoldable pub hasTaken : (c : ℕ) (m : (ℕ → Bool)) → Bool
 hasTaken c m = any (λ i. leb (own c) i && m i) (chunks c)
 
 -- a new page's marks: the bitmap's own, and the first chunk after them
-unfoldable pub newMarks : ℕ → ℕ → Bool
+unfoldable pub newMarks : (c i : ℕ) → Bool
 newMarks c i = leb i (own c)
 
 -- q bytes into a page of class c a chunk begins that is not the bitmap's
-unfoldable pub startsChunk : ℕ → ℕ → Bool
+unfoldable pub startsChunk : (c q : ℕ) → Bool
 startsChunk c q = eqb (q % chunk c) 0 && leb (own c) (q / chunk c)
 
 -- ---- sizes

@@ -36,7 +36,7 @@ Effect (Alloc n) = AllocEffect (needOf n)
 Effect (Free off) = FreeEffect off
 
 -- a class page was a page of its class before, or free
-abbrev pub SlabsFrom : (ℕ → Page) → (ℕ → Page) → Type 0
+abbrev pub SlabsFrom : (f f′ : (ℕ → Page)) → Type 0
 SlabsFrom f f′ = (p c : ℕ) (m′ : ℕ → Bool) → f′ p ≡ slab c m′ → ((m : ℕ → Bool) × (f p ≡ slab c m)) ⊎ (f p ≡ idle)
 
 -- the block keeps its pages, or its page stays of its class with the block's mark set
@@ -47,5 +47,5 @@ Stays f f′ (small off c) =
 Stays f f′ (large off n) = (p : ℕ) × (off ≡ 4096 * p) × (f p ≡ taken n) × ((j : ℕ) → p ≤ j → j < p + n → f′ j ≡ f j)
 
 -- the state after the block e is freed
-unfoldable pub without : State → Block → State
+unfoldable pub without : (s : State) (e : Block) → State
 without s e = step s (Free (offset e)) .after

@@ -25,7 +25,7 @@ kindAt [] p = vacant
 kindAt (e ∷ B) p = cond (covers e p) (kindIn e p) (kindAt B p)
 
 -- page p of P pages is free
-unfoldable pub freePage : ℕ → List Block → ℕ → Bool
+unfoldable pub freePage : (P : ℕ) (B : List Block) (p : ℕ) → Bool
 freePage P B p = ltb p P && isVacant (kindAt B p)
 
 -- a free page borders page p from below
@@ -34,11 +34,11 @@ afterFree g zero = false
 afterFree g (suc p) = g p
 
 -- the length of the stretch of free pages that starts at p, among P pages; 0 where none does
-unfoldable pub stretchAt : ℕ → (ℕ → Bool) → ℕ → ℕ
+unfoldable pub stretchAt : (P : ℕ) (g : (ℕ → Bool)) (p : ℕ) → ℕ
 stretchAt P g p = cond (afterFree g p) 0 (least (λ j. not (g (p + j))) P)
 
 -- a block begins at the offset
-abbrev pub begins : List Block → ℕ → Bool
+abbrev pub begins : (B : List Block) (off : ℕ) → Bool
 begins B off = has (λ e. eqb (offset e) off) B
 
 -- the marks of page p: the bitmap's own chunks, and those where a live block begins
@@ -57,7 +57,7 @@ abbrev pub usedIn : List Block → ℕ → ℕ
 usedIn [] c = 0
 usedIn (e ∷ B) c = usedIn B c + bit (ofClass c e)
 
-unfoldable pub expected : ℕ → List Block → View
+unfoldable pub expected : (P : ℕ) (B : List Block) → View
 expected P B = record {
   size = P;
   freeRun = stretchAt P (freePage P B);

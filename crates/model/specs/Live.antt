@@ -25,11 +25,11 @@ extent (small off c) = chunk c
 extent (large off n) = 4096 * n
 
 -- two blocks share no byte
-abbrev pub Disjoint : Block → Block → Type 0
+abbrev pub Disjoint : (a b : Block) → Type 0
 Disjoint a b = (offset a + extent a ≤ offset b) ⊎ (offset b + extent b ≤ offset a)
 
 -- the block shares no byte with the n bytes from a on
-abbrev pub Off : Block → ℕ → ℕ → Type 0
+abbrev pub Off : (e : Block) (a n : ℕ) → Type 0
 Off e a n = (offset e + extent e ≤ a) ⊎ (a + n ≤ offset e)
 
 -- ---- of a state
@@ -43,7 +43,7 @@ On (taken n) p e = e ≡ large (4096 * p) n
 On inside p e = ⊥
 On edge p e = ⊥
 
-unfoldable pub Live : (ℕ → Page) → Block → Type 0
+unfoldable pub Live : (f : (ℕ → Page)) (e : Block) → Type 0
 Live f e = (p : ℕ) × On (f p) p e
 
 -- the live blocks of a state in order of offset: the marked chunks below n of page p, ..
@@ -79,7 +79,7 @@ unfoldable pub blockFor : Need → ℕ → Block
 blockFor (chunkOf c) off = small off c
 blockFor (pages k) off = large off k
 
-unfoldable pub elsewhere : ℕ → Block → Bool
+unfoldable pub elsewhere : (off : ℕ) (e : Block) → Bool
 elsewhere off e = not (eqb (offset e) off)
 
 -- the live set B after a call that was answered so
@@ -118,7 +118,7 @@ pub record World : Type 0 where
   pub state : State
   pub live : List Block
 
-unfoldable pub next : World → Call → World
+unfoldable pub next : (w : World) (call : Call) → World
 next w call = record {
   state = step (w .state) call .after;
   live = noted (w .live) call (step (w .state) call .answer);

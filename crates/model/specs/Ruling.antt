@@ -17,7 +17,7 @@ verdict (freed n) = granted
 verdict (no k) = refused k
 
 -- a page of class c has a clear mark
-unfoldable pub clearIn : View → ℕ → Bool
+unfoldable pub clearIn : (v : View) (c : ℕ) → Bool
 clearIn v c = any (λ p. isClass c (v .page p) && any (λ i. not (v .mark p i)) (chunks c)) (v .size)
 
 -- a page is free
@@ -25,7 +25,7 @@ unfoldable pub pageIn : View → Bool
 pageIn v = any (λ p. isVacant (v .page p)) (v .size)
 
 -- a free run has k pages
-unfoldable pub runIn : View → ℕ → Bool
+unfoldable pub runIn : (v : View) (k : ℕ) → Bool
 runIn v k = any (λ p. leb k (v .freeRun p)) (v .size)
 
 unfoldable pub allocRuling : View → Need → Verdict
@@ -43,7 +43,7 @@ freeRuling v p q (runOf n) = cond (eqb q 0) granted (refused notAStart)
 freeRuling v p q within = refused notAStart
 
 -- the offset lies past the last page
-unfoldable pub pastEnd : View → ℕ → Bool
+unfoldable pub pastEnd : (v : View) (off : ℕ) → Bool
 pastEnd v off = leb (4096 * v .size) off
 
 unfoldable pub ruling : View → Call → Verdict

@@ -13,7 +13,7 @@ fit k [] = none
 fit k (r ∷ rs) = cond (leb k (r .len)) (some r) (fit k rs)
 
 -- what is left of a run after its front k pages
-unfoldable pub cutFront : ℕ → Run → List Run
+unfoldable pub cutFront : (k : ℕ) (r : Run) → List Run
 cutFront k r = cond (ltb k (r .len)) (record { start = r .start + k; len = r .len - k } ∷ []) []
 
 -- the list after k pages are taken from the first run that has as many: what remains keeps the run's place
@@ -31,21 +31,21 @@ lenAt key q [] = 0
 lenAt key q (r ∷ rs) = cond (eqb (key r) q) (r .len) (lenAt key q rs)
 
 -- the length of the run that starts at page q
-abbrev pub startsAt : ℕ → List Run → ℕ
+abbrev pub startsAt : (q : ℕ) (rs : List Run) → ℕ
 startsAt q rs = lenAt (λ r. r .start) q rs
 
 -- the length of the run that ends just before page q
-abbrev pub endsAt : ℕ → List Run → ℕ
+abbrev pub endsAt : (q : ℕ) (rs : List Run) → ℕ
 endsAt q rs = lenAt end q rs
 
 -- a run that does not touch the k pages from p on
-unfoldable pub clearOf : ℕ → ℕ → Run → Bool
+unfoldable pub clearOf : (p k : ℕ) (r : Run) → Bool
 clearOf p k r = not (eqb (r .start + r .len) p) && not (eqb (r .start) (p + k))
 
 -- the k pages from p on with the runs that touch them
-unfoldable pub joined : ℕ → ℕ → List Run → Run
+unfoldable pub joined : (p k : ℕ) (rs : List Run) → Run
 joined p k rs = record { start = p - endsAt p rs; len = endsAt p rs + k + startsAt (p + k) rs }
 
 -- joined runs leave their places, and the whole becomes the head
-unfoldable pub joinRuns : ℕ → ℕ → List Run → List Run
+unfoldable pub joinRuns : (p k : ℕ) (rs : List Run) → List Run
 joinRuns p k rs = joined p k rs ∷ keep (clearOf p k) rs

@@ -36,7 +36,7 @@ isClass c (runOf n) = false
 isClass c within = false
 
 -- the pages of class c times the chunks that count
-unfoldable pub totalIn : (ℕ → Kind) → ℕ → ℕ → ℕ
+unfoldable pub totalIn : (page : (ℕ → Kind)) (P c : ℕ) → ℕ
 totalIn page P c = count (λ p. isClass c (page p)) P * counted c
 
 -- ---- what a state shows
@@ -49,10 +49,10 @@ kindOf inside = within
 kindOf edge = vacant
 
 -- marked chunks of class c other than the bitmaps' own
-abbrev pub usedOn : ℕ → Page → ℕ
+abbrev pub usedOn : (c : ℕ) (x : Page) → ℕ
 usedOn c x = count (λ i. leb (own c) i && (isClass c (kindOf x) && marksOf x i)) (chunks c)
 
-unfoldable pub usedOf : State → ℕ → ℕ
+unfoldable pub usedOf : (s : State) (c : ℕ) → ℕ
 usedOf s c = sum (λ p. usedOn c (s .page p)) (s .size)
 
 unfoldable pub shown : State → View

@@ -31,19 +31,19 @@ decimal v = digits v (places v)
 -- ---- lines
 
 -- a word and a number
-unfoldable pub phrase : List ℕ → ℕ → List ℕ
+unfoldable pub phrase : (word : List ℕ) (v : ℕ) → List ℕ
 phrase word v = word ++ decimal v
 
 -- the same, ended by a newline
-unfoldable pub line : List ℕ → ℕ → List ℕ
+unfoldable pub line : (word : List ℕ) (v : ℕ) → List ℕ
 line word v = phrase word v ++ (10 ∷ [])
 
 -- ---- into a slice
 
 -- the text from place n on; what would lie past the end is dropped
-unfoldable pub written : List ℕ → ℕ → List ℕ → List ℕ
+unfoldable pub written : (s : List ℕ) (n : ℕ) (text : List ℕ) → List ℕ
 written s n text = sets s n text
 
 -- a function that prints a text from place n on makes u of the slice s, and answers the place r after it
-abbrev pub Prints : List ℕ → List ℕ → ℕ → ℕ → List ℕ → Type 0
+abbrev pub Prints : (s u : List ℕ) (n r : ℕ) (text : List ℕ) → Type 0
 Prints s u n r text = (r ≡ n + length text) × (u ≡ written s n text)

@@ -58,7 +58,8 @@ fn places_of(v: u32) -> usize
 
 fn ten_to(k: usize) -> u64
     requires { ⌜ k ≤ 10 ⌝ }
-    ensures { λ r. ⌜ (r ≡ tenTo k) × (0 < r) ⌝ }
+    ensures answer { λ r. ⌜ r ≡ tenTo k ⌝ }
+    ensures bound { λ r. ⌜ 0 < r ⌝ }
 {
     let mut p: u64 = 1;
     let mut i = 0;

@@ -7,9 +7,11 @@ use lib.Dec.{lit<}
 use Rattle.records.specs.declared.Header.{Header}
 use Rattle.records.specs.declared.ClassRecord.{ClassRecord}
 use Rattle.records.specs.declared.Links.{Links}
-use Rattle.records.specs.Header.{HeaderFits, packHeader, unpackHeader}
-use Rattle.records.specs.Class.{firstTo, ClassFits, packCounts, packTally, unpackClass}
-use Rattle.records.specs.Page.{LinksFit, packLinks, unpackLinks}
+use Rattle.records.specs.Header.{packHeader, unpackHeader}
+use Rattle.records.specs.Fits.{HeaderFits, ClassFits, LinksFit}
+use Rattle.records.specs.Class.{packCounts, packTally, unpackClass}
+use Rattle.records.specs.Mirror.{firstTo}
+use Rattle.records.specs.Page.{packLinks, unpackLinks}
 
 -- another first page
 pub first-fits : (r : ClassRecord) (p : ℕ) → ClassFits r → p < 65536 → ClassFits (firstTo r p)

@@ -1,5 +1,5 @@
 -- A class record in two words.
-use Prim.Native.Nat.{ℕ, _+_, _*_, _/_, _%_, _<_}
+use Prim.Native.Nat.{ℕ, _+_, _*_, _/_, _%_}
 use mathlib.Core.List.{List}
 use Rattle.words.specs.Word.{word, setWord}
 use Rattle.records.specs.Layout.{noPage, countsPlace, tallyPlace}
@@ -11,31 +11,7 @@ use Rattle.records.specs.declared.ClassRecord.{ClassRecord}
 abbrev pub emptyClass : ClassRecord
 emptyClass = record { first = record { 0 = noPage }; used = 0; total = 0; reqs = 0; fails = 0 }
 
--- one field changed
-abbrev pub firstTo : ClassRecord → ℕ → ClassRecord
-firstTo r p = record { first = record { 0 = p }; used = r .used; total = r .total; reqs = r .reqs; fails = r .fails }
-
-abbrev pub usedTo : ClassRecord → ℕ → ClassRecord
-usedTo r n = record { first = r .first; used = n; total = r .total; reqs = r .reqs; fails = r .fails }
-
-abbrev pub totalTo : ClassRecord → ℕ → ClassRecord
-totalTo r n = record { first = r .first; used = r .used; total = n; reqs = r .reqs; fails = r .fails }
-
-abbrev pub reqsTo : ClassRecord → ℕ → ClassRecord
-reqsTo r n = record { first = r .first; used = r .used; total = r .total; reqs = n; fails = r .fails }
-
-abbrev pub failsTo : ClassRecord → ℕ → ClassRecord
-failsTo r n = record { first = r .first; used = r .used; total = r .total; reqs = r .reqs; fails = n }
-
 -- ---- in its words
-
--- each field is a number of its width
-pub record ClassFits (r : ClassRecord) : Type 0 where
-  pub first : r .first .0 < 65536
-  pub used : r .used < 16777216
-  pub total : r .total < 16777216
-  pub reqs : r .reqs < 4294967296
-  pub fails : r .fails < 4294967296
 
 -- first page 16 bits, used 24, total 24
 unfoldable pub packCounts : ClassRecord → ℕ
@@ -45,7 +21,7 @@ packCounts r = r .first .0 * 281474976710656 + r .used % 16777216 * 16777216 + r
 unfoldable pub packTally : ClassRecord → ℕ
 packTally r = r .reqs * 4294967296 + r .fails
 
-unfoldable pub unpackClass : ℕ → ℕ → ClassRecord
+unfoldable pub unpackClass : (counts tally : ℕ) → ClassRecord
 unpackClass counts tally =
     record {
       first = record { 0 = counts / 281474976710656 % 65536 };
@@ -56,8 +32,8 @@ unpackClass counts tally =
     }
 
 -- the record of class c
-unfoldable pub classAt : ℕ → List ℕ → ℕ → ClassRecord
+unfoldable pub classAt : (w : ℕ) (s : List ℕ) (c : ℕ) → ClassRecord
 classAt w s c = unpackClass (word s (countsPlace w c)) (word s (tallyPlace w c))
 
-unfoldable pub withClass : ℕ → List ℕ → ℕ → ClassRecord → List ℕ
+unfoldable pub withClass : (w : ℕ) (s : List ℕ) (c : ℕ) (r : ClassRecord) → List ℕ
 withClass w s c r = setWord (setWord s (countsPlace w c) (packCounts r)) (tallyPlace w c) (packTally r)

@@ -8,22 +8,22 @@ noPage = 65535
 
 -- words: the header is word 0, a class record starts with first page and counts, then its tallies;
 -- a page record is its chunk map and then its links
-abbrev pub countsPlace : ℕ → ℕ → ℕ
+abbrev pub countsPlace : (w c : ℕ) → ℕ
 countsPlace w c = 1 + w * c
 
-abbrev pub tallyPlace : ℕ → ℕ → ℕ
+abbrev pub tallyPlace : (w c : ℕ) → ℕ
 tallyPlace w c = 2 + w * c
 
-abbrev pub mapPlace : ℕ → ℕ → ℕ
+abbrev pub mapPlace : (w p : ℕ) → ℕ
 mapPlace w p = 1 + 9 * w + 2 * p
 
-abbrev pub linksPlace : ℕ → ℕ → ℕ
+abbrev pub linksPlace : (w p : ℕ) → ℕ
 linksPlace w p = 2 + 9 * w + 2 * p
 
 -- bytes: where the pages begin in a pool of P pages
-abbrev pub pagesFrom : ℕ → ℕ → ℕ
+abbrev pub pagesFrom : (w P : ℕ) → ℕ
 pagesFrom w P = 8 * (1 + 9 * w + 2 * P)
 
 -- the page count that a length gives: each page has 4,096 bytes and a record of 16
-abbrev pub pageCount : ℕ → ℕ → ℕ
+abbrev pub pageCount : (w len : ℕ) → ℕ
 pageCount w len = (len - (8 + 72 * w)) / 4112

@@ -1,4 +1,6 @@
-pub mod Layout
-pub mod Header
-pub mod Class
-pub mod Page
+pub mod Layout  -- where the records of a pool lie
+pub mod Header  -- the header in one word
+pub mod Class  -- a class record in two words
+pub mod Page  -- a page record in two words
+pub mod Fits  -- records whose fields are numbers of their widths
+pub mod Mirror  -- records by value with one field changed

@@ -1,17 +1,9 @@
 -- A page record in two words: the chunk map, and the rest, here called its links.
-use Prim.Native.Nat.{ℕ, _+_, _*_, _/_, _%_, _<_}
+use Prim.Native.Nat.{ℕ, _+_, _*_, _/_, _%_}
 use mathlib.Core.List.{List}
 use Rattle.words.specs.Word.{word, setWord}
 use Rattle.records.specs.Layout.{linksPlace}
 use Rattle.records.specs.declared.Links.{Links}
-
--- each field is a number of its width
-pub record LinksFit (l : Links) : Type 0 where
-  pub kind : l .kind < 8
-  pub class : l .class < 16
-  pub run : l .run < 65536
-  pub next : l .next .0 < 65536
-  pub prev : l .prev .0 < 65536
 
 -- kind 3 bits, class 4, run length 16, next 16, previous 16, nine zero bits
 unfoldable pub packLinks : Links → ℕ
@@ -30,8 +22,8 @@ unpackLinks v =
     }
 
 -- the links of page p
-unfoldable pub linksAt : ℕ → List ℕ → ℕ → Links
+unfoldable pub linksAt : (w : ℕ) (s : List ℕ) (p : ℕ) → Links
 linksAt w s p = unpackLinks (word s (linksPlace w p))
 
-unfoldable pub withLinks : ℕ → List ℕ → ℕ → Links → List ℕ
+unfoldable pub withLinks : (w : ℕ) (s : List ℕ) (p : ℕ) (l : Links) → List ℕ
 withLinks w s p l = setWord s (linksPlace w p) (packLinks l)

@@ -1,8 +1,8 @@
 // The records of a pool by value: header, class records and page records, and where they stand.
 ghost use mathlib.Core.Path.{_≡_};
 ghost use Prim.Native.Nat.{_+_, _*_};
-ghost use Rattle.records.specs.Header.{freeTo, firstRunTo};
-ghost use Rattle.records.specs.Class.{emptyClass, firstTo, usedTo, totalTo, reqsTo, failsTo};
+ghost use Rattle.records.specs.Mirror.{freeTo, firstRunTo, firstTo, usedTo, totalTo, reqsTo, failsTo};
+ghost use Rattle.records.specs.Class.{emptyClass};
 
 // Where no page is meant: after a list's last page, before its first, and in a link without use.
 pub const NO_PAGE: u16 = 65535;

@@ -17,7 +17,7 @@ use Rattle.base.proofs.Count.{sum-bound, count-bound}
 use Rattle.base.proofs.AllBelow.{pick-yes, pick-no}
 use Rattle.records.specs.Layout.{noPage}
 use Rattle.records.specs.declared.Links.{Links}
-use Rattle.records.specs.Page.{LinksFit}
+use Rattle.records.specs.Fits.{LinksFit}
 use Rattle.model.specs.Classes.{chunks, own, counted}
 use Rattle.model.specs.State.{Page, idle, slab, taken, inside, edge, State, most, isIdle, marksOf}
 use Rattle.model.specs.WellFormed.{WellFormed}

@@ -2,7 +2,7 @@
 use mathlib.Core.Path.{_≡_}
 use mathlib.Core.Bool.{true, false}
 use Prim.Native.Nat.{ℕ, _-_, _%_, _^_, _≤_, _<_}
-use Rattle.records.specs.Class.{ClassFits}
+use Rattle.records.specs.Fits.{ClassFits}
 use Rattle.image.specs.Image.{Same}
 use Rattle.model.specs.Classes.{chunks}
 use Rattle.maps.specs.Bitmap.{bitsOf}

@@ -19,18 +19,18 @@ use Rattle.rules.specs.Read.{readFields}
 use Rattle.rules.specs.Rules.{rule2, rule3, rule4, rule5, rule6}
 
 -- the page count that the length gives
-abbrev pub pagesIn : ℕ → List ℕ → ℕ
+abbrev pub pagesIn : (w : ℕ) (s : List ℕ) → ℕ
 pagesIn w s = pageCount w (length s)
 
 -- where the map of page p lies, in a pool of P pages: at the start of the page for classes 8, 16 and 32, else in its record
-unfoldable pub mapBase : ℕ → ℕ → ℕ → ℕ → ℕ
+unfoldable pub mapBase : (w P p c : ℕ) → ℕ
 mapBase w P p c = pick (ltb c 3) (pagesFrom w P + 4096 * p) (8 * mapPlace w p)
 
 -- mark i of page p, which has class c; clear past the page's chunks
-unfoldable pub markAt : ℕ → List ℕ → ℕ → ℕ → ℕ → Bool
+unfoldable pub markAt : (w : ℕ) (s : List ℕ) (p c i : ℕ) → Bool
 markAt w s p c i = pick (ltb i (chunks c)) (mark s (mapBase w (pagesIn w s) p c) i) false
 
-unfoldable pub imageOf : ℕ → List ℕ → Image
+unfoldable pub imageOf : (w : ℕ) (s : List ℕ) → Image
 imageOf w s = record {
   freePages = headerAt s .«free_pages»;
   firstRun = headerAt s .«first_run» .0;
@@ -39,7 +39,7 @@ imageOf w s = record {
   links = linksAt w s;
 }
 
-unfoldable pub fieldsOf : ℕ → List ℕ → Fields
+unfoldable pub fieldsOf : (w : ℕ) (s : List ℕ) → Fields
 fieldsOf w s = record {
   image = imageOf w s;
   spare = λ p. word s (linksPlace w p) % 512;
@@ -47,14 +47,14 @@ fieldsOf w s = record {
 }
 
 -- rule 1: the length gives a P from 1 to the largest; the header's constants and P agree
-unfoldable pub rule1 : ℕ → List ℕ → Bool
+unfoldable pub rule1 : (w : ℕ) (s : List ℕ) → Bool
 rule1 w s = allOf (
     leb (8 + 72 * w + 4112) (length s) ∷ leb (pagesIn w s) maxPages ∷
     eqb (headerAt s .edition) (w - 1) ∷ eqb (headerAt s .«min_shift») 3 ∷ eqb (headerAt s .«page_shift») 12 ∷
     eqb (headerAt s .pages) (pagesIn w s) ∷ [])
 
 -- the number of the first rule that does not hold; 0 where all do
-unfoldable pub brokenRule : ℕ → List ℕ → ℕ
+unfoldable pub brokenRule : (w : ℕ) (s : List ℕ) → ℕ
 brokenRule w s =
     pick (rule1 w s)
     (pick (rule2 (fieldsOf w s) (pagesIn w s))
@@ -62,5 +62,5 @@ brokenRule w s =
     (pick (rule4 (fieldsOf w s) (pagesIn w s))
     (pick (rule5 (fieldsOf w s) (pagesIn w s)) (pick (rule6 (fieldsOf w s) (pagesIn w s)) 0 6) 5) 4) 3) 2) 1
 
-unfoldable pub read : ℕ → List ℕ → State
+unfoldable pub read : (w : ℕ) (s : List ℕ) → State
 read w s = readFields (fieldsOf w s) (pagesIn w s)

@@ -20,20 +20,20 @@ abbrev pub starts : List Run → List ℕ
 starts [] = []
 starts (r ∷ rs) = r .start ∷ starts rs
 
-abbrev pub links : ℕ → ℕ → ℕ → ℕ → ℕ → Links
+abbrev pub links : (kind class run next prev : ℕ) → Links
 links kind class run next prev =
     record { kind = kind; class = class; run = run; next = record { 0 = next }; prev = record { 0 = prev } }
 
 -- the page before and the page after p on a list, or none
-abbrev pub onList : ℕ → ℕ → ℕ → ℕ → List ℕ → Links
+abbrev pub onList : (kind class run p : ℕ) (xs : List ℕ) → Links
 onList kind class run p xs = links kind class run (nextIn noPage p xs) (prevFrom noPage noPage p xs)
 
 -- the first page of the free run whose last page is p, where it has two or more
-unfoldable pub backLink : List Run → ℕ → ℕ
+unfoldable pub backLink : (rs : List Run) (p : ℕ) → ℕ
 backLink rs p = pick (eqb (endsAt (p + 1) rs) 0) noPage (p + 1 - endsAt (p + 1) rs)
 
 -- of a free page: the first of its run, or inside it
-unfoldable pub freeLinks : List Run → ℕ → Links
+unfoldable pub freeLinks : (rs : List Run) (p : ℕ) → Links
 freeLinks rs p = pick (eqb (startsAt p rs) 0) (links 0 0 0 noPage (backLink rs p)) (onList 1 0 (startsAt p rs) p (starts rs))
 
 abbrev pub pageLinks : List Run → (ℕ → List ℕ) → ℕ → Page → Links
@@ -52,7 +52,7 @@ mapOf inside = 0
 mapOf edge = 0
 
 -- of a class: its first page, its counts and its tallies
-abbrev pub classRecord : ℕ → ℕ → ℕ → Tally → ClassRecord
+abbrev pub classRecord : (first used total : ℕ) (tally : Tally) → ClassRecord
 classRecord first used total tally =
     record { first = record { 0 = first }; used = used; total = total; reqs = tally .reqs; fails = tally .fails }
 

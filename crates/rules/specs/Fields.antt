@@ -13,26 +13,26 @@ pub record Fields : Type 0 where
   pub mark : ℕ → ℕ → Bool
 
 -- of page p
-abbrev pub kind : Fields → ℕ → ℕ
+abbrev pub kind : (v : Fields) (p : ℕ) → ℕ
 kind v p = v .image .links p .kind
 
-abbrev pub class : Fields → ℕ → ℕ
+abbrev pub class : (v : Fields) (p : ℕ) → ℕ
 class v p = v .image .links p .class
 
-abbrev pub run : Fields → ℕ → ℕ
+abbrev pub run : (v : Fields) (p : ℕ) → ℕ
 run v p = v .image .links p .run
 
-abbrev pub next : Fields → ℕ → ℕ
+abbrev pub next : (v : Fields) (p : ℕ) → ℕ
 next v p = v .image .links p .next .0
 
-abbrev pub prev : Fields → ℕ → ℕ
+abbrev pub prev : (v : Fields) (p : ℕ) → ℕ
 prev v p = v .image .links p .prev .0
 
-abbrev pub map : Fields → ℕ → ℕ
+abbrev pub map : (v : Fields) (p : ℕ) → ℕ
 map v p = v .image .map p
 
 -- of class c
-abbrev pub first : Fields → ℕ → ℕ
+abbrev pub first : (v : Fields) (c : ℕ) → ℕ
 first v c = v .image .class c .first .0
 
 -- what a page is, by its kind
@@ -45,5 +45,5 @@ pageOf (suc (suc (suc (suc zero)))) class run mark = inside
 pageOf (suc (suc (suc (suc (suc k))))) class run mark = edge
 
 -- page p of n
-unfoldable pub pageAt : Fields → ℕ → ℕ → Page
+unfoldable pub pageAt : (v : Fields) (n p : ℕ) → Page
 pageAt v n p = pick (ltb p n) (pageOf (kind v p) (class v p) (run v p) (v .mark p)) edge

@@ -35,7 +35,7 @@ pub record RunFits (v : Fields) (n inner p : ℕ) : Type 0 where
   pub each : (j : ℕ) → p < j → j < p + run v p → kind v j ≡ inner
 
 -- page p lies in a run whose first page, another, is of kind `head`
-unfoldable pub LiesIn : Fields → ℕ → ℕ → ℕ → Type 0
+unfoldable pub LiesIn : (v : Fields) (n head p : ℕ) → Type 0
 LiesIn v n head p = (q : ℕ) × (q < n) × (kind v q ≡ head) × (q < p) × (p < q + run v q)
 
 -- kind 0: inside a free run; only the run's last page has a previous
@@ -101,15 +101,15 @@ pub record Lists (Good : ℕ → Type 0) (nx pv : ℕ → ℕ) (h : ℕ) (L : Li
   pub prevs : (p : ℕ) → Mem p L → pv p ≡ prevFrom noPage noPage p L
 
 -- first page of a free run
-unfoldable pub Head : Fields → ℕ → ℕ → Type 0
+unfoldable pub Head : (v : Fields) (n p : ℕ) → Type 0
 Head v n p = (p < n) × (kind v p ≡ 1)
 
 -- class page of class c with a free chunk
-unfoldable pub Open : Fields → ℕ → ℕ → ℕ → Type 0
+unfoldable pub Open : (v : Fields) (n c p : ℕ) → Type 0
 Open v n c p = (p < n) × (kind v p ≡ 2) × (class v p ≡ c) × (i : ℕ) × (i < chunks c) × (v .mark p i ≡ false)
 
 -- from the header: each free run
-unfoldable pub Rule3 : Fields → ℕ → Type 0
+unfoldable pub Rule3 : (v : Fields) (n : ℕ) → Type 0
 Rule3 v n = (L : List ℕ) × Lists (Head v n) (next v) (prev v) (v .image .firstRun) L
 
 -- from each class record: each page of that class with a free chunk; a full page is on no list and has no links
@@ -119,14 +119,14 @@ pub record Rule4 (v : Fields) (n : ℕ) : Type 0 where
 
 -- ---- rule 5: each class page has at least one chunk in a caller's hands
 
-unfoldable pub Rule5 : Fields → ℕ → Type 0
+unfoldable pub Rule5 : (v : Fields) (n : ℕ) → Type 0
 Rule5 v n = (p : ℕ) → p < n → kind v p ≡ 2 → (i : ℕ) × (own (class v p) ≤ i) × (i < chunks (class v p)) × (v .mark p i ≡ true)
 
 -- ---- rule 6: free pages are counted, each class's used is its marked chunks other than the maps' own, and total is its pages times the
 -- chunks that count
 
 -- page p is of class c
-unfoldable pub ofClass : Fields → ℕ → ℕ → Bool
+unfoldable pub ofClass : (v : Fields) (c p : ℕ) → Bool
 ofClass v c p = eqb (kind v p) 2 && eqb (class v p) c
 
 pub record Rule6 (v : Fields) (n : ℕ) : Type 0 where

@@ -15,18 +15,18 @@ trail nx zero p = []
 trail nx (suc k) p = p ∷ trail nx k (nx p)
 
 -- page p is the first of a free run
-unfoldable pub isHead : Fields → ℕ → ℕ → Bool
+unfoldable pub isHead : (v : Fields) (n p : ℕ) → Bool
 isHead v n p = pick (ltb p n) (eqb (kind v p) 1) false
 
 -- page p is of class c and has a clear mark
-unfoldable pub openAt : Fields → ℕ → ℕ → ℕ → Bool
+unfoldable pub openAt : (v : Fields) (n c p : ℕ) → Bool
 openAt v n c p = isOpen c (pageAt v n p)
 
 -- the pages that belong on a list, in list order: their number is known, so the walk ends
-unfoldable pub headsOf : Fields → ℕ → List ℕ
+unfoldable pub headsOf : (v : Fields) (n : ℕ) → List ℕ
 headsOf v n = trail (next v) (count (isHead v n) n) (v .image .firstRun)
 
-unfoldable pub listOf : Fields → ℕ → ℕ → List ℕ
+unfoldable pub listOf : (v : Fields) (n c : ℕ) → List ℕ
 listOf v n c = pick (ltb c 9) (trail (next v) (count (openAt v n c) n) (first v c)) []
 
 abbrev pub withLengths : (ℕ → ℕ) → List ℕ → List Run
@@ -37,10 +37,10 @@ abbrev pub tallyIn : ClassRecord → Tally
 tallyIn r = record { reqs = r .reqs; fails = r .fails }
 
 -- there are no tallies past class 8
-unfoldable pub tallyOf : Fields → ℕ → Tally
+unfoldable pub tallyOf : (v : Fields) (c : ℕ) → Tally
 tallyOf v c = pick (ltb c 9) (tallyIn (v .image .class c)) (record { reqs = 0; fails = 0 })
 
-unfoldable pub readFields : Fields → ℕ → State
+unfoldable pub readFields : (v : Fields) (n : ℕ) → State
 readFields v n = record {
   size = n;
   page = pageAt v n;

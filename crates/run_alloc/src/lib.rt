@@ -6,7 +6,7 @@ use records::Links;
 use records::NO_PAGE;
 use records::PageNumber;
 ghost use mathlib.Core.Path.{_≡_};
-ghost use Rattle.run_extents.specs.Extents.{fewerFree, restKept, frontCut, frontOff, frontPage, runTaken};
+ghost use Rattle.run_extents.specs.Mirror.{fewerFree, restKept, frontCut, frontOff, frontPage, runTaken};
 
 fn take_free(pool: &mut [u8], k: u16)
     ensures { λ _. ⌜ now (pool .exit) ≡ fewerFree (now (pool .entry)) k ⌝ }

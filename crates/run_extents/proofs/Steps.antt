@@ -12,7 +12,7 @@ use Rattle.records.specs.declared.Header.{Header}
 use Rattle.records.specs.declared.Links.{Links}
 use Rattle.records.specs.Header.{headerAt}
 use Rattle.records.specs.Page.{linksAt, withLinks}
-use Rattle.run_extents.specs.Extents.{wrap, filled, fitFrom, fitIn}
+use Rattle.run_extents.specs.Mirror.{wrap, filled, fitFrom, fitIn}
 
 -- ---- fill
 

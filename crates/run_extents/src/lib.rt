@@ -5,7 +5,7 @@ use records::NO_PAGE;
 use records::PageNumber;
 ghost use mathlib.Core.Path.{_≡_};
 ghost use Prim.Native.Nat.{_+_, _-_};
-ghost use Rattle.run_extents.specs.Extents.{wrap, plain, fitIn};
+ghost use Rattle.run_extents.specs.Mirror.{wrap, plain, fitIn};
 
 pub fn add(a: u16, b: u16) -> u16
     ensures { λ r. ⌜ r ≡ wrap (a + b) ⌝ }

@@ -5,8 +5,8 @@ use records::NO_PAGE;
 use records::PageNumber;
 ghost use mathlib.Core.Path.{_≡_};
 ghost use Prim.Native.Nat.{_+_};
-ghost use Rattle.run_extents.specs.Extents.{wrap};
-ghost use Rattle.run_neighbours.specs.Release.{moreFree, runUnlinked, runDropped, oneOf, blanked, runPushed, joinedRun, pagesReleased};
+ghost use Rattle.run_extents.specs.Mirror.{wrap};
+ghost use Rattle.run_neighbours.specs.Mirror.{moreFree, runUnlinked, runDropped, oneOf, blanked, runPushed, joinedRun, pagesReleased};
 
 fn sum(a: u16, b: u16, c: u16) -> u16
     ensures { λ r. ⌜ r ≡ wrap (a + b + c) ⌝ }

@@ -21,12 +21,12 @@ use Rattle.model.specs.WellFormed.{RunsOk}
 use Rattle.model.proofs.Runs.{same-run, fit-found, remains, cut-mem, carve-from, carved}
 use Rattle.image.specs.Image.{Image, setAllLinks}
 use Rattle.image.specs.Update.{setFree}
-use Rattle.lists.specs.Links.{between}
+use Rattle.lists.specs.Mirror.{between}
 use Rattle.lists.specs.Nodes.{firstIn, unlink, put}
 use Rattle.rules.specs.Drawn.{starts, pageLinks}
 use Rattle.rules.proofs.Runs.{mem-start, starts-once, start-mem}
 use Rattle.shows.specs.Shows.{Unlisted, ShowsOn, ShowsLinks}
-use Rattle.run_extents.specs.Extents.{plain}
+use Rattle.run_extents.specs.Mirror.{plain}
 use Rattle.run_laws.specs.OnImage.{backOn, cutOn, frontOn, takenOn}
 use Rattle.run_laws.specs.Scene.{Scene}
 use Rattle.run_laws.proofs.Starts.{starts-carve}

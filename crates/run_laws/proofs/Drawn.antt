@@ -32,8 +32,8 @@ use Rattle.shows.specs.Shows.{ShowsOn, ShowsLinks}
 use Rattle.shows.proofs.Shows.{has-links, state-shows}
 use Rattle.drawing.specs.Draw.{mapped, draw}
 use Rattle.drawing.proofs.Mapped.{length-mapped}
-use Rattle.run_extents.specs.Extents.{fitIn, runTaken}
-use Rattle.run_neighbours.specs.Release.{pagesReleased}
+use Rattle.run_extents.specs.Mirror.{fitIn, runTaken}
+use Rattle.run_neighbours.specs.Mirror.{pagesReleased}
 use Rattle.run_laws.specs.OnImage.{startOr, takenOn, releasedOn}
 use Rattle.run_laws.specs.Scene.{Scene}
 use Rattle.run_laws.proofs.Shown.{state-scene, shows-fewer, first-run}

@@ -29,7 +29,7 @@ use Rattle.lists.proofs.Laws.{next-page, next-head}
 use Rattle.rules.specs.Drawn.{starts}
 use Rattle.rules.proofs.Runs.{starts-once, start-mem}
 use Rattle.shows.specs.Shows.{ShowsLinks}
-use Rattle.run_extents.specs.Extents.{fitFrom, fitIn}
+use Rattle.run_extents.specs.Mirror.{fitFrom, fitIn}
 use Rattle.run_laws.specs.OnImage.{startOr}
 use Rattle.run_laws.specs.Scene.{Scene}
 use Rattle.run_laws.proofs.Shown.{RunsShown, start-free, runs-shown}

@@ -27,8 +27,8 @@ use Rattle.lists.specs.Nodes.{firstIn}
 use Rattle.rules.specs.Drawn.{starts}
 use Rattle.rules.proofs.Runs.{mem-start, start-mem}
 use Rattle.shows.specs.Shows.{ShowsOn, ShowsLinks}
-use Rattle.run_extents.specs.Extents.{plain}
-use Rattle.run_neighbours.specs.Release.{oneOf}
+use Rattle.run_extents.specs.Mirror.{plain}
+use Rattle.run_neighbours.specs.Mirror.{oneOf}
 use Rattle.run_laws.specs.OnImage.{fillOn, backOn, dropOn, joinedOn, joinOn, releasedOn}
 use Rattle.run_laws.specs.Scene.{Scene}
 use Rattle.run_laws.proofs.Starts.{keep-every, keep-both, starts-keep}

@@ -25,8 +25,8 @@ use Rattle.image.proofs.Fits.{Fits, fits-free, fits-links}
 use Rattle.lists.proofs.Paint.{Maybe}
 use Rattle.rules.specs.Drawn.{starts, pageLinks}
 use Rattle.shows.specs.Shows.{ShowsOn, ShowsLinks}
-use Rattle.run_extents.specs.Extents.{wrap, plain, frontOff, runTaken}
-use Rattle.run_neighbours.specs.Release.{lenFrom, runFrom, rightLen, lenTo, runTo, leftLen, pagesReleased}
+use Rattle.run_extents.specs.Mirror.{wrap, plain, frontOff, runTaken}
+use Rattle.run_neighbours.specs.Mirror.{lenFrom, runFrom, rightLen, lenTo, runTo, leftLen, pagesReleased}
 use Rattle.run_laws.specs.OnImage.{frontOn, takenOn, releasedOn}
 use Rattle.run_laws.specs.Scene.{Scene}
 use Rattle.run_laws.proofs.Shown.{body, RunsShown, start-free, runs-shown}

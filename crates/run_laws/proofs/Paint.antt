@@ -12,16 +12,16 @@ use Rattle.base.proofs.Cases.{eq?, lt?, Out, in?}
 use Rattle.base.proofs.Functions.{upd-same, upd-other, fill-in, fill-out}
 use Rattle.records.specs.Layout.{noPage}
 use Rattle.records.specs.declared.Links.{Links}
-use Rattle.records.specs.Page.{LinksFit}
+use Rattle.records.specs.Fits.{LinksFit}
 use Rattle.image.specs.Image.{Image, paint, setLinks}
 use Rattle.image.specs.Update.{setFree}
 use Rattle.image.proofs.Paint.{paint-ext, links-paint, header-paint, links-shown, header-shown}
 use Rattle.image.proofs.Fits.{Fits, header-fits, fits-free, fits-links}
-use Rattle.lists.specs.Links.{between}
+use Rattle.lists.specs.Mirror.{between}
 use Rattle.lists.specs.Nodes.{firstIn, unlink, push, put}
 use Rattle.lists.proofs.Paint.{Maybe, small, fits-first, fits-prev, fits-next, unlink-paint, push-paint, put-paint}
-use Rattle.run_extents.specs.Extents.{wrap, fewerFree, plain, filled, lastBacked, backed, restKept, frontCut, frontOff, runTaken}
-use Rattle.run_neighbours.specs.Release.{moreFree, runUnlinked, runDropped, oneOf, blanked, runPushed, joinedRun}
+use Rattle.run_extents.specs.Mirror.{wrap, fewerFree, plain, filled, lastBacked, backed, restKept, frontCut, frontOff, runTaken}
+use Rattle.run_neighbours.specs.Mirror.{moreFree, runUnlinked, runDropped, oneOf, blanked, runPushed, joinedRun}
 use Rattle.run_laws.specs.OnImage.{fillOn, backOn, cutOn, frontOn, takenOn, dropOn, joinedOn, joinOn}
 
 -- the pages around a page are pages of the pool, or none

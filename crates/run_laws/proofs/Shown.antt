@@ -21,13 +21,13 @@ use Rattle.model.proofs.Runs.{same-run, Keyed, keyed, starts-at, ends-at}
 use Rattle.model.proofs.Table.{is-idle, in-table}
 use Rattle.model.proofs.Lists.{open-is}
 use Rattle.image.specs.Image.{Image}
-use Rattle.lists.specs.Links.{between}
+use Rattle.lists.specs.Mirror.{between}
 use Rattle.lists.specs.Nodes.{head, firstIn, nextOf, prevOf, Listed}
 use Rattle.lists.proofs.Laws.{next-page, next-head}
 use Rattle.rules.specs.Drawn.{starts, onList, backLink, freeLinks, pageLinks}
 use Rattle.rules.proofs.Runs.{mem-start, inner-start, start-mem}
 use Rattle.shows.specs.Shows.{Unlisted, ShowsOn, ShowsLinks}
-use Rattle.run_extents.specs.Extents.{plain}
+use Rattle.run_extents.specs.Mirror.{plain}
 use Rattle.run_laws.specs.Scene.{Scene}
 
 -- a page of run x but its first: the last one leads back

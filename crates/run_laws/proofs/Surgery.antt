@@ -18,12 +18,12 @@ use Rattle.records.specs.declared.Links.{Links}
 use Rattle.model.specs.State.{Run}
 use Rattle.model.specs.WellFormed.{RunsOk}
 use Rattle.image.specs.Image.{Image, setAllLinks}
-use Rattle.lists.specs.Links.{between}
+use Rattle.lists.specs.Mirror.{between}
 use Rattle.lists.specs.Nodes.{head, firstIn, Listed, putFirst, putNext, unlink, push, put}
 use Rattle.lists.proofs.Laws.{next-page, next-head, unlink-listed, push-listed, put-listed, unlink-off, push-off, put-off, unlink-relinked, push-relinked, put-relinked}
 use Rattle.rules.specs.Drawn.{starts}
 use Rattle.rules.proofs.Runs.{mem-start, starts-once, start-mem}
-use Rattle.run_extents.specs.Extents.{plain}
+use Rattle.run_extents.specs.Mirror.{plain}
 use Rattle.run_laws.specs.OnImage.{backOn}
 use Rattle.run_laws.proofs.Shown.{RunsShown, within, listed-kept}
 

@@ -5,7 +5,7 @@ use records::Links;
 use records::PageNumber;
 ghost use mathlib.Core.Path.{_≡_};
 ghost use Prim.Native.Nat.{_-_};
-ghost use Rattle.run_neighbours.specs.Release.{lenFrom, runFrom, rightLen, lenTo, runTo, leftLen};
+ghost use Rattle.run_neighbours.specs.Mirror.{lenFrom, runFrom, rightLen, lenTo, runTo, leftLen};
 
 // The page k pages before p.
 pub fn before(p: PageNumber, k: u16) -> PageNumber

@@ -3,7 +3,7 @@ use records::INSIDE_FREE;
 use records::Links;
 use records::PageNumber;
 ghost use mathlib.Core.Path.{_≡_};
-ghost use Rattle.run_extents.specs.Extents.{filled, lastBacked, backed};
+ghost use Rattle.run_extents.specs.Mirror.{filled, lastBacked, backed};
 
 // Gives the n pages from p on the links l.
 pub fn fill(pool: &mut [u8], w: u8, p: PageNumber, n: u16, l: Links)

@@ -24,7 +24,7 @@ use Rattle.printing.specs.Text.{line, written}
 use Rattle.script_replies.specs.Replies.{poolWord, outcomeLine, formatLine, replyLine}
 use Rattle.script_summary.specs.Summary.{freeRuns, summaryOf}
 use Rattle.script.specs.Script.{pages, reply, next, replies, final, summary, exchange, transcript}
-use Rattle.script.specs.Served.{replyOn, nextOn, repliesOn, finalOn, textOn, exchangeOn, printoutOn}
+use Rattle.script.specs.Mirror.{replyOn, nextOn, repliesOn, finalOn, textOn, exchangeOn, printoutOn}
 
 -- ---- the lines
 

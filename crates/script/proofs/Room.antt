@@ -22,7 +22,7 @@ use Rattle.script_replies.specs.Replies.{poolWord, atWord, noWord, backLine, re
 use Rattle.script_summary.specs.Summary.{freeWord, runsWord, summaryLine}
 use Rattle.rules.specs.Rules.{freeIn}
 use Rattle.script.specs.Script.{reply, replies, next, final, joined, summary, exchange}
-use Rattle.script.specs.Served.{replyOn, nextOn, repliesOn, textOn}
+use Rattle.script.specs.Mirror.{replyOn, nextOn, repliesOn, textOn}
 
 pub phrase-few : (word : List ℕ) (v : ℕ) → length (phrase word v) ≤ length word + 10
 unfolding phrase

@@ -16,7 +16,7 @@ use Rattle.printing.proofs.Writing.{written-none, written-append}
 use Rattle.script_replies.specs.Replies.{refusalLine, formatLine, allocLine, freeLine, replyLine}
 use Rattle.script_summary.specs.Summary.{summaryOf}
 use Rattle.script.specs.Script.{joined}
-use Rattle.script.specs.Served.{replyOn, nextOn, Serves, repliesOn, finalOn, textOn, exchangeOn, printoutOn}
+use Rattle.script.specs.Mirror.{replyOn, nextOn, Serves, repliesOn, finalOn, textOn, exchangeOn, printoutOn}
 use Rattle.script.proofs.Room.{format-few}
 
 -- ---- one line

@@ -47,7 +47,7 @@ joined (l ∷ ls) = l ++ joined ls
 unfoldable pub summary : State → List ℕ
 summary m = summaryLine (freeIn (m .page) (m .size)) (length (m .runs))
 
-unfoldable pub exchange : State → List (List ℕ) → List ℕ
+unfoldable pub exchange : (m : State) (ls : List (List ℕ)) → List ℕ
 exchange m ls = joined (replies m ls) ++ summary (final m ls)
 
 unfoldable pub transcript : List ℕ → List ℕ

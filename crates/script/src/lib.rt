@@ -12,7 +12,7 @@ ghost use Rattle.script_lines.specs.Lines.{lines, request, callOf};
 ghost use Rattle.printing.specs.Text.{written};
 ghost use Rattle.script_replies.specs.Replies.{formatLine};
 ghost use Rattle.script.specs.Script.{transcript, printout};
-ghost use Rattle.script.specs.Served.{Serves, textOn, finalOn};
+ghost use Rattle.script.specs.Mirror.{Serves, textOn, finalOn};
 
 // Each function writes from place n on and answers the place after its lines.
 fn serve_take(pool: &mut [u8], size: u32, out: &mut [u8], n: usize) -> usize
@@ -69,7 +69,8 @@ fn start(pool: &mut [u8], out: &mut [u8]) -> usize
 
 fn serve_fresh(pool: &mut [u8], input: &[u8], out: &mut [u8]) -> usize
     requires { ⌜ (length (now pool) ≡ 49496) × (length (now input) ≤ 12288) ⌝ }
-    ensures { λ r. ⌜ (r ≡ length (transcript (now (input .entry)))) × (now (out .exit) ≡ written (now (out .entry)) 0 (transcript (now (input .entry)))) ⌝ }
+    ensures answer { λ r. ⌜ r ≡ length (transcript (now (input .entry))) ⌝ }
+    ensures slice { λ _. ⌜ now (out .exit) ≡ written (now (out .entry)) 0 (transcript (now (input .entry))) ⌝ }
 {
     let first = start(pool, out);
     let next = serve_lines(pool, input, out, first);

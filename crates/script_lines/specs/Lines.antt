@@ -26,12 +26,12 @@ lines (b ∷ bs) = cond (eqb b 10) ([] ∷ lines bs) (before b (lines bs))
 -- ---- what a line asks for
 
 -- four letters and a space
-unfoldable pub begins : List ℕ → ℕ → ℕ → ℕ → ℕ → Bool
+unfoldable pub begins : (line : List ℕ) (a b c d : ℕ) → Bool
 begins line a b c d = allOf (
     eqb (getD line 0 0) a ∷ eqb (getD line 1 0) b ∷ eqb (getD line 2 0) c ∷ eqb (getD line 3 0) d ∷
     eqb (getD line 4 0) 32 ∷ [])
 
-unfoldable pub callWith : (ℕ → Call) → List ℕ → Option Call
+unfoldable pub callWith : (call : (ℕ → Call)) (s : List ℕ) → Option Call
 callWith call s = pick (isNumber s) (some (call (valueOf s (length s)))) none
 
 -- `take N` and `give N`, and nothing else

@@ -44,7 +44,8 @@ fn zero_alone(s: &[u8]) -> bool
 }
 
 fn cap(v: u64) -> u64
-    ensures { λ r. ⌜ (r ≡ capped v) × (r ≤ 4294967296) ⌝ }
+    ensures answer { λ r. ⌜ r ≡ capped v ⌝ }
+    ensures bound { λ r. ⌜ r ≤ 4294967296 ⌝ }
 {
     if v <= 4294967295 { v } else { 4294967296 }
 }
@@ -52,13 +53,15 @@ fn cap(v: u64) -> u64
 // One digit more.
 fn shifted(v: u64, b: u8) -> u64
     requires { ⌜ v ≤ 4294967296 ⌝ }
-    ensures { λ r. ⌜ (r ≡ capped (v * 10 + (b - 48))) × (r ≤ 4294967296) ⌝ }
+    ensures answer { λ r. ⌜ r ≡ capped (v * 10 + (b - 48)) ⌝ }
+    ensures bound { λ r. ⌜ r ≤ 4294967296 ⌝ }
 {
     cap(v * 10 + minus(b as usize, 48) as u64)
 }
 
 fn value(s: &[u8]) -> u64
-    ensures { λ r. ⌜ (r ≡ capped (valueOf (now (s .entry)) (length (now (s .entry))))) × (r ≤ 4294967296) ⌝ }
+    ensures answer { λ r. ⌜ r ≡ capped (valueOf (now (s .entry)) (length (now (s .entry)))) ⌝ }
+    ensures bound { λ r. ⌜ r ≤ 4294967296 ⌝ }
 {
     let mut v: u64 = 0;
     let mut i = 0;

@@ -26,7 +26,7 @@ unfoldable pub refusalLine : Refusal → List ℕ
 refusalLine r = line noWord (numberOf r)
 
 -- a call's outcome, where granted says what a grant prints
-unfoldable pub outcomeLine : List ℕ → Outcome → List ℕ
+unfoldable pub outcomeLine : (granted : List ℕ) (o : Outcome) → List ℕ
 outcomeLine granted o = pick (eqb (o .number) 0) granted (line noWord (o .number))
 
 unfoldable pub formatLine : Outcome → List ℕ

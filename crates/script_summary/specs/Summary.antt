@@ -14,14 +14,14 @@ freeWord = 102 ∷ 114 ∷ 101 ∷ 101 ∷ 32 ∷ []
 abbrev pub runsWord : List ℕ
 runsWord = 32 ∷ 114 ∷ 117 ∷ 110 ∷ 115 ∷ 32 ∷ []
 
-unfoldable pub summaryLine : ℕ → ℕ → List ℕ
+unfoldable pub summaryLine : (free runs : ℕ) → List ℕ
 summaryLine free runs = phrase freeWord free ++ line runsWord runs
 
 -- ---- as the records of a pool tell it
 
 -- first pages of free runs
-unfoldable pub freeRuns : ℕ → List ℕ → ℕ
+unfoldable pub freeRuns : (w : ℕ) (s : List ℕ) → ℕ
 freeRuns w s = count (isHead (fieldsOf w s) (pagesIn w s)) (pagesIn w s)
 
-unfoldable pub summaryOf : ℕ → List ℕ → List ℕ
+unfoldable pub summaryOf : (w : ℕ) (s : List ℕ) → List ℕ
 summaryOf w s = summaryLine (headerAt s .«free_pages») (freeRuns w s)

@@ -18,7 +18,7 @@ use Rattle.model.proofs.Table.{is-idle}
 use Rattle.model.proofs.Lists.{open-is}
 use Rattle.model.specs.WellFormed.{RunsOk, ListsOk, TableOk, WellFormed}
 use Rattle.image.specs.Image.{Image}
-use Rattle.lists.specs.Links.{between}
+use Rattle.lists.specs.Mirror.{between}
 use Rattle.lists.specs.Nodes.{head, firstIn, nextOf, prevOf, Listed}
 use Rattle.rules.specs.Drawn.{starts, links, onList, freeLinks, pageLinks, stateImage}
 use Rattle.rules.proofs.Runs.{mem-start, start-some, starts-mem}

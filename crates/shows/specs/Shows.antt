@@ -5,7 +5,7 @@ use Prim.Native.Nat.{ℕ, suc, _≤_, _<_}
 use Rattle.base.specs.Lists.{Mem}
 use Rattle.model.specs.State.{Page, Run}
 use Rattle.image.specs.Image.{Image}
-use Rattle.lists.specs.Links.{between}
+use Rattle.lists.specs.Mirror.{between}
 use Rattle.lists.specs.Nodes.{prevOf, Listed}
 use Rattle.rules.specs.Drawn.{starts, pageLinks}
 
@@ -24,5 +24,5 @@ pub record ShowsOn (on : ℕ → Type 0) (page : ℕ → Page) (rs : List Run) (
   pub unlisted : (p : ℕ) → on p → Unlisted rs ls p → J .links p ≡ pageLinks rs ls p (page p)
 
 -- all P pages
-abbrev pub ShowsLinks : ℕ → (ℕ → Page) → List Run → (ℕ → List ℕ) → Image → Type 0
+abbrev pub ShowsLinks : (P : ℕ) (page : (ℕ → Page)) (rs : List Run) (ls : (ℕ → List ℕ)) (J : Image) → Type 0
 ShowsLinks P page rs ls J = ShowsOn (λ p. p < P) page rs ls J

@@ -13,7 +13,7 @@ use Rattle.base.specs.Search.{least, any}
 use Rattle.base.proofs.Cases.{lt?, and-true}
 use Rattle.base.proofs.Search.{least-is, any-false}
 use Rattle.model.specs.Classes.{chunk, classOf}
-use Rattle.sizes.specs.Sizes.{upTo64, upTo2048, classFor}
+use Rattle.sizes.specs.Mirror.{upTo64, upTo2048, classFor}
 
 shifted : ℕ → Bool
 shifted c = eqb (2048 / 2 ^ (8 - c)) (chunk c) && (leb (2048 / 2 ^ (8 - c)) 2048 && leb 1 (2048 / 2 ^ (8 - c)))

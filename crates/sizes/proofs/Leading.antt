@@ -9,7 +9,7 @@ use borrow.Author.Tests.{eqb-true, leb-true, le-leb, not-false}
 use Rattle.base.specs.Tests.{pick}
 use Rattle.base.specs.Search.{least, any}
 use Rattle.base.proofs.Search.{any-false}
-use Rattle.sizes.specs.Sizes.{upTo64, upTo2048, classFor}
+use Rattle.sizes.specs.Mirror.{upTo64, upTo2048, classFor}
 
 pub leading-class : (n : ℕ) → 8 < n → n ≤ 2048 → 29 - leadingZeros 32 (n - 1) ≡ classFor n
 unfolding any least leadingZeros classFor upTo64 upTo2048 pick

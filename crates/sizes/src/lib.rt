@@ -5,12 +5,13 @@ use records::PageNumber;
 ghost use mathlib.Core.Path.{_≡_};
 ghost use Prim.Native.Nat.{_+_, _*_, _≤_};
 ghost use Rattle.model.specs.Classes.{chunk, pagesFor};
-ghost use Rattle.sizes.specs.Sizes.{classFor};
+ghost use Rattle.sizes.specs.Mirror.{classFor};
 
 // The smallest class whose chunk holds the size: by the count of leading zeros, without a choice for each class.
 pub fn class_for(size: u32) -> u8
     requires { ⌜ size ≤ 2048 ⌝ }
-    ensures { λ r. ⌜ (r ≡ classFor size) × (r ≤ 8) ⌝ }
+    ensures answer { λ r. ⌜ r ≡ classFor size ⌝ }
+    ensures bound { λ r. ⌜ r ≤ 8 ⌝ }
 {
     if size <= 8 {
         return 0;
@@ -44,7 +45,8 @@ pub fn chunk_size(c: u8) -> u32
 // Chunk i of class c begins so many bytes into its page.
 pub fn chunk_start(c: u8, i: u16) -> u32
     requires { ⌜ c ≤ 8 ⌝ }
-    ensures { λ r. ⌜ (r ≡ chunk c * i) × (r ≤ 268435455) ⌝ }
+    ensures answer { λ r. ⌜ r ≡ chunk c * i ⌝ }
+    ensures bound { λ r. ⌜ r ≤ 268435455 ⌝ }
 {
     chunk_size(c) * i as u32
 }

@@ -13,7 +13,7 @@ use Rattle.model.specs.Classes.{maxPages}
 use Rattle.model.proofs.Classes.{max-pages}
 use Rattle.branchless.proofs.Loops.{passed}
 use Rattle.rules.specs.Bytes.{pagesIn, fieldsOf, rule1, brokenRule}
-use Rattle.validate.specs.Broken.{fromRule2, fromRule3}
+use Rattle.validate.specs.Mirror.{fromRule2, fromRule3}
 
 -- rule 1 bounds the page count
 pub few-pages : (w : ℕ) (s : List ℕ) (n : ℕ) (u : Bool) → n ≡ pagesIn w s → u ≡ rule1 w s → not u ≡ false → n ≤ 4096

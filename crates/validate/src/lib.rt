@@ -4,8 +4,8 @@ ghost use mathlib.Core.Path.{_≡_};
 ghost use Prim.Native.Nat.{_≤_};
 ghost use lib.Dec.{eqb};
 ghost use Rattle.rules.specs.Bytes.{pagesIn, fieldsOf, brokenRule};
-ghost use Rattle.validate_totals.specs.Scanned.{Scanned};
-ghost use Rattle.validate.specs.Broken.{fromRule2, fromRule3};
+ghost use Rattle.validate_totals.specs.Mirror.{Scanned};
+ghost use Rattle.validate.specs.Mirror.{fromRule2, fromRule3};
 
 // The first of rules 3 to 6 that does not hold.
 fn broken_list_or_count(pool: &[u8], w: u8, n: usize, t: &[u64; 11]) -> u8

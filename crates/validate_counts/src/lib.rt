@@ -6,7 +6,7 @@ ghost use Prim.Native.Nat.{_<_};
 ghost use Rattle.base.specs.Tests.{allBelow};
 ghost use Rattle.rules.specs.Rules.{rule5, rule6, countsFit};
 ghost use Rattle.rules.specs.Bytes.{fieldsOf};
-ghost use Rattle.validate_totals.specs.Scanned.{Scanned};
+ghost use Rattle.validate_totals.specs.Mirror.{Scanned};
 
 // Rule 5: no page is without a chunk in a caller's hands.
 pub fn in_use(pool: &[u8], w: u8, n: usize, t: &[u64; 11]) -> bool

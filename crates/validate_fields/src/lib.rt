@@ -50,7 +50,8 @@ pub fn map_of(pool: &[u8], w: u8, p: PageNumber) -> u64
 // The word at which the map of page p of n begins, where the page is of class c.
 pub fn map_at(w: u8, n: usize, p: PageNumber, c: u8) -> usize
     requires { ⌜ n ≤ 65535 ⌝ }
-    ensures { λ r. ⌜ (8 * r ≡ mapBase w n (p .0) c) × (r < 67108864) ⌝ }
+    ensures answer { λ r. ⌜ 8 * r ≡ mapBase w n (p .0) c ⌝ }
+    ensures bound { λ r. ⌜ r < 67108864 ⌝ }
 {
     let q = p.0 as usize;
     if c < 3 {

@@ -15,8 +15,8 @@ use Rattle.records.specs.Class.{classAt}
 use Rattle.rules.specs.Fields.{next, prev}
 use Rattle.rules.specs.Rules.{linked, rule3, classList}
 use Rattle.rules.specs.Bytes.{imageOf, fieldsOf}
-use Rattle.validate_walk.specs.Walk.{belongs}
-use Rattle.validate_totals.specs.Scanned.{Scanned}
+use Rattle.validate_walk.specs.Mirror.{belongs}
+use Rattle.validate_totals.specs.Mirror.{Scanned}
 use Rattle.validate_totals.proofs.Totals.{heads-is, open-is}
 
 module _ (w : ℕ) (s : List ℕ) (n : ℕ) (t : List ℕ) (K : Scanned w s n t) (k : ℕ) (r : Bool) where

@@ -7,7 +7,7 @@ ghost use Prim.Native.Nat.{_<_};
 ghost use Rattle.base.specs.Tests.{allBelow};
 ghost use Rattle.rules.specs.Rules.{rule3, rule4, classList};
 ghost use Rattle.rules.specs.Bytes.{fieldsOf};
-ghost use Rattle.validate_totals.specs.Scanned.{Scanned};
+ghost use Rattle.validate_totals.specs.Mirror.{Scanned};
 
 // Rule 3: as many pages are on the free-run list as begin a free run.
 pub fn free_list(pool: &[u8], w: u8, n: usize, t: &[u64; 11]) -> bool

@@ -27,7 +27,7 @@ use Rattle.rules.specs.Fields.{Fields, kind, class, pageAt}
 use Rattle.rules.specs.Read.{isHead, openAt}
 use Rattle.rules.specs.Rules.{mapFits, classWith, classPage, rule2At, inUse, fullAlone}
 use Rattle.rules.specs.Bytes.{pagesIn, imageOf, fieldsOf}
-use Rattle.validate_pages.specs.Tally.{classShare, freeShare, faultShare, share, Counted, onesAt, classWeight, classFault, addAt, classAdded, kindAdded, pageAdded}
+use Rattle.validate_pages.specs.Mirror.{classShare, freeShare, faultShare, share, Counted, onesAt, classWeight, classFault, addAt, classAdded, kindAdded, pageAdded}
 use Rattle.validate_pages.proofs.Shares.{ones-marks, page-is, plain-share, slab-share}
 
 -- ---- sums

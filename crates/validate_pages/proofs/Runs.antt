@@ -19,9 +19,9 @@ use Rattle.records.specs.declared.Links.{Links}
 use Rattle.rules.specs.Fields.{Fields, kind, run}
 use Rattle.rules.specs.Rules.{classPage, rule2At, rule2}
 use Rattle.rules.specs.Bytes.{pagesIn, imageOf, fieldsOf}
-use Rattle.validate_runs.specs.Whole.{freeWhole, takenWhole, Kept, Border}
+use Rattle.validate_runs.specs.Mirror.{freeWhole, takenWhole, Kept, Border}
 use Rattle.validate_runs.proofs.Whole.{free-kept, free-ends, free-must, taken-kept, taken-ends, taken-must, border-free, border-taken, border-class}
-use Rattle.validate_pages.specs.Tally.{Here, Steps, onesAt, addAt, classAdded, pageAdded}
+use Rattle.validate_pages.specs.Mirror.{Here, Steps, onesAt, addAt, classAdded, pageAdded}
 use Rattle.validate_pages.proofs.Steps.{added-inside, added-first, added-class, added-none}
 use Rattle.validate_pages.proofs.Pass.{Passed, pass-more, slab-of}
 

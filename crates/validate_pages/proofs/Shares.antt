@@ -21,14 +21,14 @@ use Rattle.maps.proofs.Words.{word-marks}
 use Rattle.model.specs.Classes.{chunks, own}
 use Rattle.model.specs.State.{Page, idle, slab, taken, inside, edge, isIdle, isOpen}
 use Rattle.model.specs.View.{kindOf, isClass, usedOn}
-use Rattle.map_count.specs.Popcount.{mapBits}
+use Rattle.map_count.specs.Mirror.{mapBits}
 use Rattle.map_count.proofs.Counts.{ones-bits, count-join}
 use Rattle.map_count.proofs.Marked.{count-ext, count-none, clear-count, taken-count, used-count}
 use Rattle.rules.specs.Fields.{Fields, kind, class, run, next, prev, pageOf, pageAt}
 use Rattle.rules.specs.Read.{isHead, openAt}
 use Rattle.rules.specs.Rules.{mapFits, fullAlone, inUse}
 use Rattle.rules.specs.Bytes.{pagesIn, mapBase, markAt}
-use Rattle.validate_pages.specs.Tally.{classShare, freeShare, faultShare, share, onesAt, classWeight, strays, classFault}
+use Rattle.validate_pages.specs.Mirror.{classShare, freeShare, faultShare, share, onesAt, classWeight, strays, classFault}
 
 -- ---- the set marks of a page whose map field fits its class
 

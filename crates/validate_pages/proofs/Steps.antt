@@ -5,10 +5,10 @@ use mathlib.Core.List.{List}
 use Prim.Native.Nat.{ℕ, zero, suc, _*_}
 use Rattle.base.specs.Count.{count}
 use Rattle.maps.specs.Bitmap.{mark}
-use Rattle.map_count.specs.Popcount.{mapBits}
+use Rattle.map_count.specs.Mirror.{mapBits}
 use Rattle.rules.specs.Bytes.{pagesIn, mapBase}
 use Rattle.records.specs.declared.Links.{Links}
-use Rattle.validate_pages.specs.Tally.{onesAt, addAt, classAdded, kindAdded, pageAdded}
+use Rattle.validate_pages.specs.Mirror.{onesAt, addAt, classAdded, kindAdded, pageAdded}
 
 pub ones-read : (w : ℕ) (s : List ℕ) (n p c k r : ℕ) → n ≡ pagesIn w s → 8 * k ≡ mapBase w n p c → r ≡ count (mark s (8 * k)) (mapBits c) → r ≡ onesAt w s p c
 unfolding onesAt

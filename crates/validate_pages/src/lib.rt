@@ -12,8 +12,8 @@ ghost use Rattle.records.specs.Page.{unpackLinks};
 ghost use Rattle.model.specs.Classes.{chunks, own};
 ghost use Rattle.rules.specs.Rules.{rule2};
 ghost use Rattle.rules.specs.Bytes.{pagesIn, fieldsOf};
-ghost use Rattle.validate_runs.specs.Whole.{Border};
-ghost use Rattle.validate_pages.specs.Tally.{Counted, Here, Steps, onesAt, classWeight, strays, classFault, addAt, classAdded};
+ghost use Rattle.validate_runs.specs.Mirror.{Border};
+ghost use Rattle.validate_pages.specs.Mirror.{Counted, Here, Steps, onesAt, classWeight, strays, classFault, addAt, classAdded};
 
 // The eleven counters: one for each class, and these for free pages and for faults.
 pub const FREE: usize = 9;
@@ -36,7 +36,8 @@ fn add_at(t: &mut [u64; 11], j: usize, x: u64)
 // The set marks of page p of n, which has class c.
 pub fn ones_of(pool: &[u8], w: u8, n: usize, p: PageNumber, c: u8) -> usize
     requires { ⌜ (n ≡ pagesIn w (now pool)) × (p .0 < n) × (n ≤ 65535) ⌝ }
-    ensures { λ r. ⌜ (r ≡ onesAt w (now (pool .entry)) (p .0) c) × (r ≤ 512) ⌝ }
+    ensures answer { λ r. ⌜ r ≡ onesAt w (now (pool .entry)) (p .0) c ⌝ }
+    ensures bound { λ r. ⌜ r ≤ 512 ⌝ }
 {
     map_count::count_marks(pool, validate_fields::map_at(w, n, p, c), c)
 }
@@ -154,7 +155,8 @@ fn pass_next(pool: &[u8], w: u8, n: usize, p: PageNumber, t: &mut [u64; 11]) -> 
 // Rule 2; where it holds, the counters are those of all pages. The first run or class page that breaks it ends the pass.
 pub fn scan(pool: &[u8], w: u8, n: usize, t: &mut [u64; 11]) -> bool
     requires { ⌜ (n ≡ pagesIn w (now pool)) × (n ≤ 4096) × (length (now t) ≡ 11) × ((j : ℕ) → getD (now t) j 0 ≡ 0) ⌝ }
-    ensures { λ r. ⌜ (r ≡ rule2 (fieldsOf w (now (pool .entry))) n) × (r ≡ true → Counted (fieldsOf w (now (pool .entry))) n n (now (t .exit))) ⌝ }
+    ensures answer { λ r. ⌜ r ≡ rule2 (fieldsOf w (now (pool .entry))) n ⌝ }
+    ensures counters { λ r. ⌜ (r ≡ true → Counted (fieldsOf w (now (pool .entry))) n n (now (t .exit))) ⌝ }
 {
     let mut p = 0;
     while p < n {

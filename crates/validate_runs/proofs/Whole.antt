@@ -20,7 +20,7 @@ use Rattle.rules.specs.Fields.{Fields, kind, class, run, next, prev, map}
 use Rattle.rules.specs.Rules.{kindAt, kindFrom, runFits, insideFree, endsFree, lastBack, freeRun, firstFree, endsTaken, takenRun, firstTaken, insideTaken, rule2At}
 use Rattle.rules.specs.Drawn.{links}
 use Rattle.rules.specs.Bytes.{imageOf, fieldsOf}
-use Rattle.validate_runs.specs.Whole.{plainAt, plainFrom, begins, lastPlain, freeInside, freeRest, freeWhole, takenRest, takenWhole, Kept, Border}
+use Rattle.validate_runs.specs.Mirror.{plainAt, plainFrom, begins, lastPlain, freeInside, freeRest, freeWhole, takenRest, takenWhole, Kept, Border}
 
 -- ---- rule 2 at a page of a run
 

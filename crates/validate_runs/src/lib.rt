@@ -8,7 +8,7 @@ ghost use Prim.Native.Nat.{_+_, _≤_, _<_};
 ghost use Rattle.records.specs.Page.{unpackLinks};
 ghost use Rattle.rules.specs.Rules.{endsFree, endsTaken};
 ghost use Rattle.rules.specs.Bytes.{fieldsOf};
-ghost use Rattle.validate_runs.specs.Whole.{plainAt, plainFrom, begins, lastPlain, freeInside, freeRest, freeWhole, takenRest, takenWhole};
+ghost use Rattle.validate_runs.specs.Mirror.{plainAt, plainFrom, begins, lastPlain, freeInside, freeRest, freeWhole, takenRest, takenWhole};
 
 // The links of a page inside a free run, but for its last: next and previous none, the rest 0.
 const FREE_LINKS: u64 = 2199023255040;

@@ -17,7 +17,7 @@ use Rattle.rules.specs.Fields.{class, run, map}
 use Rattle.rules.specs.Rules.{mapFits, classWith, classPage}
 use Rattle.rules.specs.Bytes.{markAt, imageOf, fieldsOf}
 use Rattle.classes.proofs.Numbers.{chunks-past, own-past}
-use Rattle.validate_slabs.specs.Holds.{mapHolds}
+use Rattle.validate_slabs.specs.Mirror.{mapHolds}
 
 -- ---- in the page
 

@@ -21,7 +21,7 @@ use Rattle.maps.proofs.Words.{word-marks}
 use Rattle.model.specs.Classes.{chunks, own}
 use Rattle.map_count.proofs.Marked.{own-fits}
 use Rattle.rules.specs.Bytes.{pagesIn, mapBase, markAt}
-use Rattle.classes.specs.Classes.{ownWord}
+use Rattle.classes.specs.Mirror.{ownWord}
 use Rattle.classes.proofs.Numbers.{own-small}
 
 -- a marks are all set where their number is as large as it can be

@@ -6,7 +6,7 @@ ghost use Rattle.base.specs.Tests.{allBelow};
 ghost use Rattle.model.specs.Classes.{own};
 ghost use Rattle.rules.specs.Rules.{mapFits, classPage};
 ghost use Rattle.rules.specs.Bytes.{pagesIn, markAt, fieldsOf};
-ghost use Rattle.validate_slabs.specs.Holds.{mapHolds};
+ghost use Rattle.validate_slabs.specs.Mirror.{mapHolds};
 
 // Whether the map's own chunks are marked: they have the top bits of its first word.
 fn own_marked(pool: &[u8], w: u8, n: usize, p: PageNumber, c: u8) -> bool

@@ -17,7 +17,7 @@ use Rattle.map_count.proofs.Counts.{count-le}
 use Rattle.rules.specs.Fields.{Fields, pageAt}
 use Rattle.rules.specs.Read.{isHead, openAt, readFields}
 use Rattle.rules.specs.Rules.{inUse, fullAlone, rule5, freeIn}
-use Rattle.validate_pages.specs.Tally.{classShare, freeShare, faultShare, share, Counted}
+use Rattle.validate_pages.specs.Mirror.{classShare, freeShare, faultShare, share, Counted}
 use Rattle.classes.proofs.Numbers.{chunks-512}
 use Rattle.validate_pages.proofs.Pass.{sum-le, used-le}
 

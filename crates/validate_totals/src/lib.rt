@@ -14,7 +14,8 @@ pub fn low(t: &[u64; 11], j: usize) -> u64
 
 pub fn middle(t: &[u64; 11], j: usize) -> u64
     requires { ⌜ j < 11 ⌝ }
-    ensures { λ r. ⌜ (r ≡ getD (now (t .entry)) j 0 / 4294967296 % 65536) × (r < 65536) ⌝ }
+    ensures answer { λ r. ⌜ r ≡ getD (now (t .entry)) j 0 / 4294967296 % 65536 ⌝ }
+    ensures bound { λ r. ⌜ r < 65536 ⌝ }
 {
     t[j] / SECOND % 65536
 }

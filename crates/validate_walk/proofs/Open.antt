@@ -13,7 +13,7 @@ use Rattle.words.specs.Word.{Bytes}
 use Rattle.maps.specs.Bitmap.{mark}
 use Rattle.model.specs.Classes.{chunks, hasClear}
 use Rattle.model.specs.State.{isOpen}
-use Rattle.map_occupancy.specs.Occupancy.{isFull}
+use Rattle.map_occupancy.specs.Mirror.{isFull}
 use Rattle.map_occupancy.proofs.Words.{bits-most}
 use Rattle.map_occupancy.proofs.Told.{full-is}
 use Rattle.records.specs.Layout.{mapPlace, pagesFrom}
@@ -25,7 +25,7 @@ use Rattle.validate_slabs.proofs.Top.{map-inside}
 use Rattle.base.proofs.AllBelow.{all-at}
 use Rattle.validate_pages.proofs.Shares.{page-is, map-marks}
 use Rattle.validate_pages.proofs.Pass.{Slab, kind-of}
-use Rattle.validate_walk.specs.Walk.{belongs}
+use Rattle.validate_walk.specs.Mirror.{belongs}
 
 module _ (w : ℕ) (s : List ℕ) (n p : ℕ) (B : Bytes s) (pages : n ≡ pagesIn w s) (ok : rule2 (fieldsOf w s) n ≡ true) (h : p < n) where
   abbrev v : Fields

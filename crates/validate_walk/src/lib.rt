@@ -13,8 +13,8 @@ ghost use Rattle.rules.specs.Fields.{kind, class, next, prev};
 ghost use Rattle.rules.specs.Read.{isHead, openAt};
 ghost use Rattle.rules.specs.Rules.{rule2, linked};
 ghost use Rattle.rules.specs.Bytes.{pagesIn, mapBase, fieldsOf};
-ghost use Rattle.map_occupancy.specs.Occupancy.{isFull};
-ghost use Rattle.validate_walk.specs.Walk.{belongs};
+ghost use Rattle.map_occupancy.specs.Mirror.{isFull};
+ghost use Rattle.validate_walk.specs.Mirror.{belongs};
 
 fn next_of(pool: &[u8], w: u8, p: PageNumber) -> PageNumber
     ensures { λ r. ⌜ r .0 ≡ next (fieldsOf w (now (pool .entry))) (p .0) ⌝ }

@@ -6,7 +6,7 @@ use native.Mathlib.Nat.{add-assoc}
 use native.Mathlib.Omega.{arith}
 use lib.ListN.{getD}
 use Rattle.words.specs.Word.{Bytes, wordAt}
-use Rattle.words.specs.Swap.{littleAt, swapPair, swapHalf, swapWord}
+use Rattle.words.specs.Mirror.{littleAt, swapPair, swapHalf, swapWord}
 
 sum : (a b c d e f g h : ℕ) →
     ((((((a * 256 + b) * 256 + c) * 256 + d) * 256 + e) * 256 + f) * 256 + g) * 256 + h

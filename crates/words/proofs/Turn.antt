@@ -4,7 +4,7 @@ use mathlib.Core.List.{List}
 use Prim.Native.Nat.{ℕ, _+_, _/_, _%_, _<_}
 use native.Mathlib.Omega.{arith}
 use Rattle.words.specs.Word.{withPair, withHalf, withWord}
-use Rattle.words.specs.Swap.{swapPair, swapHalf, swapWord, withLittlePair, withLittleHalf, withLittleWord}
+use Rattle.words.specs.Mirror.{swapPair, swapHalf, swapWord, withLittlePair, withLittleHalf, withLittleWord}
 
 pair-below : (v : ℕ) → swapPair v < 65536
 unfolding swapPair

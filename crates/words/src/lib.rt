@@ -2,20 +2,22 @@
 ghost use mathlib.Core.Path.{_≡_};
 ghost use Prim.Native.Nat.{_+_, _*_, _≤_, _<_};
 ghost use lib.ListN.{length};
-ghost use Rattle.words.specs.Swap.{littleAt, swapPair, swapHalf, swapWord, withLittlePair, withLittleHalf, withLittleWord};
+ghost use Rattle.words.specs.Mirror.{littleAt, swapPair, swapHalf, swapWord, withLittlePair, withLittleHalf, withLittleWord};
 ghost use Rattle.words.specs.Word.{wordAt, withWord};
 
 // Words are composed at 64 bits, least significant byte first, and then turned over: the eight loads become one load, whichever
 // parts of the word are used, and the turn one byte swap.
 fn first(b: u8) -> u64
-    ensures { λ r. ⌜ (r ≡ b) × (r < 256) ⌝ }
+    ensures answer { λ r. ⌜ r ≡ b ⌝ }
+    ensures bound { λ r. ⌜ r < 256 ⌝ }
 {
     b as u64
 }
 
 fn next(hi: u64, b: u8) -> u64
     requires { ⌜ hi < 72057594037927936 ⌝ }
-    ensures { λ r. ⌜ (r ≡ hi * 256 + b) × (r < hi * 256 + 256) ⌝ }
+    ensures answer { λ r. ⌜ r ≡ hi * 256 + b ⌝ }
+    ensures bound { λ r. ⌜ r < hi * 256 + 256 ⌝ }
 {
     hi * 256 + b as u64
 }
@@ -35,13 +37,15 @@ fn little64(s: &[u8], at: usize) -> u64
 }
 
 fn swap16(v: u64) -> u64
-    ensures { λ r. ⌜ (r ≡ swapPair v) × (r < 65536) ⌝ }
+    ensures answer { λ r. ⌜ r ≡ swapPair v ⌝ }
+    ensures bound { λ r. ⌜ r < 65536 ⌝ }
 {
     v % 256 * 256 + v / 256 % 256
 }
 
 fn swap32(v: u64) -> u64
-    ensures { λ r. ⌜ (r ≡ swapHalf v) × (r < 4294967296) ⌝ }
+    ensures answer { λ r. ⌜ r ≡ swapHalf v ⌝ }
+    ensures bound { λ r. ⌜ r < 4294967296 ⌝ }
 {
     swap16(v % 65536) * 65536 + swap16(v / 65536 % 65536)
 }

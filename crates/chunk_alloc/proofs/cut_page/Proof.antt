@@ -1,4 +1,4 @@
-use Rattle.chunks.specs.Chunks.{pageCut}
+use Rattle.chunks.specs.Mirror.{pageCut}
 use borrow.Author.Needs.{needs}
 use Rattle.chunk_alloc.proofs.cut_page.Statement.{statement}
 use Rattle.chunk_alloc.proofs.cut_page.Tie as tie

@@ -1,4 +1,4 @@
-use Rattle.chunks.specs.Chunks.{newMapAt}
+use Rattle.chunks.specs.Mirror.{newMapAt}
 use borrow.Author.Needs.{needs}
 use Rattle.chunk_alloc.proofs.open_map.Statement.{statement}
 use Rattle.chunk_alloc.proofs.open_map.Tie as tie

@@ -1,4 +1,4 @@
-use Rattle.chunks.specs.Chunks.{chunkTaken}
+use Rattle.chunks.specs.Mirror.{chunkTaken}
 use borrow.Author.Needs.{needs}
 use Rattle.chunk_alloc.proofs.take_chunk.Statement.{statement}
 use Rattle.chunk_alloc.proofs.take_chunk.Tie as tie

@@ -1,4 +1,4 @@
-use Rattle.chunks.specs.Chunks.{pageDropped}
+use Rattle.chunks.specs.Mirror.{pageDropped}
 use borrow.Author.Needs.{needs}
 use Rattle.chunk_free.proofs.drop_page.Statement.{statement}
 use Rattle.chunk_free.proofs.drop_page.Tie as tie

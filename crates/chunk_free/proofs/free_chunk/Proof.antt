@@ -1,4 +1,4 @@
-use Rattle.chunks.specs.Chunks.{chunkFreed}
+use Rattle.chunks.specs.Mirror.{chunkFreed}
 use Rattle.base.proofs.Tests.{picks}
 use borrow.Author.Needs.{needs}
 use Rattle.chunk_free.proofs.free_chunk.Statement.{statement}

@@ -1,4 +1,4 @@
-use Rattle.chunks.specs.Chunks.{chunkKept}
+use Rattle.chunks.specs.Mirror.{chunkKept}
 use borrow.Author.Needs.{needs}
 use Rattle.chunk_free.proofs.keep_page.Statement.{statement}
 use Rattle.chunk_free.proofs.keep_page.Tie as tie

@@ -1,4 +1,4 @@
-use Rattle.classes.specs.Classes.{countBack}
+use Rattle.classes.specs.Mirror.{countBack}
 use borrow.Author.Needs.{needs}
 use Rattle.class_counting.proofs.count_back.Statement.{statement}
 use Rattle.class_counting.proofs.count_back.Tie as tie

@@ -1,4 +1,4 @@
-use Rattle.classes.specs.Classes.{countPageBack}
+use Rattle.classes.specs.Mirror.{countPageBack}
 use borrow.Author.Needs.{needs}
 use Rattle.class_counting.proofs.count_page_back.Statement.{statement}
 use Rattle.class_counting.proofs.count_page_back.Tie as tie

@@ -1,4 +1,4 @@
-use Rattle.classes.specs.Classes.{countPageUsed}
+use Rattle.classes.specs.Mirror.{countPageUsed}
 use borrow.Author.Needs.{needs}
 use Rattle.class_counting.proofs.count_page_used.Statement.{statement}
 use Rattle.class_counting.proofs.count_page_used.Tie as tie

@@ -1,4 +1,4 @@
-use Rattle.classes.specs.Classes.{countUsed}
+use Rattle.classes.specs.Mirror.{countUsed}
 use borrow.Author.Needs.{needs}
 use Rattle.class_counting.proofs.count_used.Statement.{statement}
 use Rattle.class_counting.proofs.count_used.Tie as tie

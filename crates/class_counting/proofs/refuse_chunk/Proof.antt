@@ -1,4 +1,4 @@
-use Rattle.classes.specs.Classes.{chunkRefused}
+use Rattle.classes.specs.Mirror.{chunkRefused}
 use borrow.Author.Needs.{needs}
 use Rattle.class_counting.proofs.refuse_chunk.Statement.{statement}
 use Rattle.class_counting.proofs.refuse_chunk.Tie as tie

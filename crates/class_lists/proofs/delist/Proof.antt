@@ -1,4 +1,4 @@
-use Rattle.chunks.specs.Chunks.{delisted}
+use Rattle.chunks.specs.Mirror.{delisted}
 use borrow.Author.Needs.{needs}
 use Rattle.class_lists.proofs.delist.Statement.{statement}
 use Rattle.class_lists.proofs.delist.Tie as tie

@@ -1,4 +1,4 @@
-use Rattle.chunks.specs.Chunks.{enlisted}
+use Rattle.chunks.specs.Mirror.{enlisted}
 use borrow.Author.Needs.{needs}
 use Rattle.class_lists.proofs.enlist.Statement.{statement}
 use Rattle.class_lists.proofs.enlist.Tie as tie

@@ -1,4 +1,4 @@
-use Rattle.chunks.specs.Chunks.{fullLeaves}
+use Rattle.chunks.specs.Mirror.{fullLeaves}
 use Rattle.base.proofs.Tests.{picks}
 use borrow.Author.Needs.{needs}
 use Rattle.class_lists.proofs.leave_if_full.Statement.{statement}

@@ -1,4 +1,4 @@
-use Rattle.chunks.specs.Chunks.{fullReturns}
+use Rattle.chunks.specs.Mirror.{fullReturns}
 use Rattle.base.proofs.Tests.{picks}
 use borrow.Author.Needs.{needs}
 use Rattle.class_lists.proofs.return_if_full.Statement.{statement}

@@ -1,4 +1,4 @@
-use Rattle.chunks.specs.Chunks.{setAside}
+use Rattle.chunks.specs.Mirror.{setAside}
 use borrow.Author.Needs.{needs}
 use Rattle.class_lists.proofs.set_aside.Statement.{statement}
 use Rattle.class_lists.proofs.set_aside.Tie as tie

@@ -1,4 +1,4 @@
-use Rattle.lists.specs.Links.{firstOf}
+use Rattle.lists.specs.Mirror.{firstOf}
 use Rattle.base.proofs.Tests.{picks}
 use borrow.Author.Needs.{needs}
 use Rattle.list_heads.proofs.first.Statement.{statement}

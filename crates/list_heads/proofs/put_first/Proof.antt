@@ -1,4 +1,4 @@
-use Rattle.lists.specs.Links.{withFirst}
+use Rattle.lists.specs.Mirror.{withFirst}
 use Rattle.base.proofs.Tests.{picks}
 use borrow.Author.Needs.{needs}
 use Rattle.list_heads.proofs.put_first.Statement.{statement}

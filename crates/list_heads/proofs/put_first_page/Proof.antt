@@ -1,4 +1,4 @@
-use Rattle.lists.specs.Links.{withFirstPage}
+use Rattle.lists.specs.Mirror.{withFirstPage}
 use borrow.Author.Needs.{needs}
 use Rattle.list_heads.proofs.put_first_page.Statement.{statement}
 use Rattle.list_heads.proofs.put_first_page.Tie as tie

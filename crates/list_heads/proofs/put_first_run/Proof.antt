@@ -1,4 +1,4 @@
-use Rattle.lists.specs.Links.{withFirstRun}
+use Rattle.lists.specs.Mirror.{withFirstRun}
 use borrow.Author.Needs.{needs}
 use Rattle.list_heads.proofs.put_first_run.Statement.{statement}
 use Rattle.list_heads.proofs.put_first_run.Tie as tie

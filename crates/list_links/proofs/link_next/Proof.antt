@@ -1,4 +1,4 @@
-use Rattle.lists.specs.Links.{linkedNext}
+use Rattle.lists.specs.Mirror.{linkedNext}
 use borrow.Author.Needs.{needs}
 use Rattle.list_links.proofs.link_next.Statement.{statement}
 use Rattle.list_links.proofs.link_next.Tie as tie

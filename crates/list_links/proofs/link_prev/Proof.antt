@@ -1,4 +1,4 @@
-use Rattle.lists.specs.Links.{linkedPrev}
+use Rattle.lists.specs.Mirror.{linkedPrev}
 use borrow.Author.Needs.{needs}
 use Rattle.list_links.proofs.link_prev.Statement.{statement}
 use Rattle.list_links.proofs.link_prev.Tie as tie

@@ -1,4 +1,4 @@
-use Rattle.lists.specs.Links.{withNext}
+use Rattle.lists.specs.Mirror.{withNext}
 use Rattle.base.proofs.Tests.{picks}
 use borrow.Author.Needs.{needs}
 use Rattle.list_links.proofs.put_next.Statement.{statement}

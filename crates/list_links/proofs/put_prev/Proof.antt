@@ -1,4 +1,4 @@
-use Rattle.lists.specs.Links.{withPrev}
+use Rattle.lists.specs.Mirror.{withPrev}
 use Rattle.base.proofs.Tests.{picks}
 use borrow.Author.Needs.{needs}
 use Rattle.list_links.proofs.put_prev.Statement.{statement}

@@ -1,4 +1,4 @@
-use Rattle.lists.specs.Links.{pushedBefore}
+use Rattle.lists.specs.Mirror.{pushedBefore}
 use borrow.Author.Needs.{needs}
 use Rattle.list_moves.proofs.push_before.Statement.{statement}
 use Rattle.list_moves.proofs.push_before.Tie as tie

@@ -1,4 +1,4 @@
-use Rattle.lists.specs.Links.{pushed}
+use Rattle.lists.specs.Mirror.{pushed}
 use borrow.Author.Needs.{needs}
 use Rattle.list_moves.proofs.push_front.Statement.{statement}
 use Rattle.list_moves.proofs.push_front.Tie as tie

@@ -1,4 +1,4 @@
-use Rattle.lists.specs.Links.{replaced}
+use Rattle.lists.specs.Mirror.{replaced}
 use borrow.Author.Needs.{needs}
 use Rattle.list_moves.proofs.replace.Statement.{statement}
 use Rattle.list_moves.proofs.replace.Tie as tie

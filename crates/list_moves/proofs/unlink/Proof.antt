@@ -1,4 +1,4 @@
-use Rattle.lists.specs.Links.{unlinked}
+use Rattle.lists.specs.Mirror.{unlinked}
 use borrow.Author.Needs.{needs}
 use Rattle.list_moves.proofs.unlink.Statement.{statement}
 use Rattle.list_moves.proofs.unlink.Tie as tie

@@ -6,7 +6,7 @@ use lib.Dec.{eqb}
 use Rattle.base.specs.Tests.{allBelow}
 use Rattle.branchless.proofs.Loops.{alls, all-more, all-fails}
 use Rattle.words.specs.Word.{word}
-use Rattle.map_occupancy.specs.Occupancy.{expected, wordsAre}
+use Rattle.map_occupancy.specs.Mirror.{expected, wordsAre}
 use Rattle.map_occupancy.proofs.all_words.Statement.{statement}
 use Rattle.map_occupancy.proofs.all_words.Tie as tie
 

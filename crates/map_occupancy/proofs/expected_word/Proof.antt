@@ -1,4 +1,4 @@
-use Rattle.map_occupancy.specs.Occupancy.{expected}
+use Rattle.map_occupancy.specs.Mirror.{expected}
 use Rattle.base.proofs.Tests.{picks}
 use Rattle.map_occupancy.proofs.expected_word.Statement.{statement}
 use Rattle.map_occupancy.proofs.expected_word.Tie as tie

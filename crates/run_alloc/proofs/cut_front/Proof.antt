@@ -1,5 +1,5 @@
 use Rattle.base.proofs.Tests.{picks}
-use Rattle.run_extents.specs.Extents.{frontCut}
+use Rattle.run_extents.specs.Mirror.{frontCut}
 use borrow.Author.Needs.{needs}
 use Rattle.run_alloc.proofs.cut_front.Statement.{statement}
 use Rattle.run_alloc.proofs.cut_front.Tie as tie

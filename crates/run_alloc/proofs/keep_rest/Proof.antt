@@ -1,4 +1,4 @@
-use Rattle.run_extents.specs.Extents.{restKept}
+use Rattle.run_extents.specs.Mirror.{restKept}
 use borrow.Author.Needs.{needs}
 use Rattle.run_alloc.proofs.keep_rest.Statement.{statement}
 use Rattle.run_alloc.proofs.keep_rest.Tie as tie

@@ -1,4 +1,4 @@
-use Rattle.run_extents.specs.Extents.{fewerFree}
+use Rattle.run_extents.specs.Mirror.{fewerFree}
 use borrow.Author.Needs.{needs}
 use Rattle.run_alloc.proofs.take_free.Statement.{statement}
 use Rattle.run_alloc.proofs.take_free.Tie as tie

@@ -1,4 +1,4 @@
-use Rattle.run_extents.specs.Extents.{frontOff}
+use Rattle.run_extents.specs.Mirror.{frontOff}
 use borrow.Author.Needs.{needs}
 use Rattle.run_alloc.proofs.take_front.Statement.{statement}
 use Rattle.run_alloc.proofs.take_front.Tie as tie

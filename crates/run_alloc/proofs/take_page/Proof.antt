@@ -1,4 +1,4 @@
-use Rattle.run_extents.specs.Extents.{frontPage}
+use Rattle.run_extents.specs.Mirror.{frontPage}
 use borrow.Author.Needs.{needs}
 use Rattle.run_alloc.proofs.take_page.Statement.{statement}
 use Rattle.run_alloc.proofs.take_page.Tie as tie

@@ -1,4 +1,4 @@
-use Rattle.run_extents.specs.Extents.{runTaken}
+use Rattle.run_extents.specs.Mirror.{runTaken}
 use borrow.Author.Needs.{needs}
 use Rattle.run_alloc.proofs.take_run.Statement.{statement}
 use Rattle.run_alloc.proofs.take_run.Tie as tie

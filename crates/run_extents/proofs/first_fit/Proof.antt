@@ -1,5 +1,5 @@
 use mathlib.Core.Path.{_≡_}
-use Rattle.run_extents.specs.Extents.{fitFrom, fitIn}
+use Rattle.run_extents.specs.Mirror.{fitFrom, fitIn}
 use Rattle.run_extents.proofs.Steps.{fits, fit-here}
 use Rattle.run_extents.proofs.first_fit.Statement.{statement}
 use Rattle.run_extents.proofs.first_fit.Tie as tie

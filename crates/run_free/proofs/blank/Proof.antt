@@ -1,4 +1,4 @@
-use Rattle.run_neighbours.specs.Release.{blanked}
+use Rattle.run_neighbours.specs.Mirror.{blanked}
 use borrow.Author.Needs.{needs}
 use Rattle.run_free.proofs.blank.Statement.{statement}
 use Rattle.run_free.proofs.blank.Tie as tie

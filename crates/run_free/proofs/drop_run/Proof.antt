@@ -1,5 +1,5 @@
 use Rattle.base.proofs.Tests.{picks}
-use Rattle.run_neighbours.specs.Release.{runDropped}
+use Rattle.run_neighbours.specs.Mirror.{runDropped}
 use borrow.Author.Needs.{needs}
 use Rattle.run_free.proofs.drop_run.Statement.{statement}
 use Rattle.run_free.proofs.drop_run.Tie as tie

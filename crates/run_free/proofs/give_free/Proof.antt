@@ -1,4 +1,4 @@
-use Rattle.run_neighbours.specs.Release.{moreFree}
+use Rattle.run_neighbours.specs.Mirror.{moreFree}
 use borrow.Author.Needs.{needs}
 use Rattle.run_free.proofs.give_free.Statement.{statement}
 use Rattle.run_free.proofs.give_free.Tie as tie

@@ -1,4 +1,4 @@
-use Rattle.run_neighbours.specs.Release.{joinedRun}
+use Rattle.run_neighbours.specs.Mirror.{joinedRun}
 use borrow.Author.Needs.{needs}
 use Rattle.run_free.proofs.join.Statement.{statement}
 use Rattle.run_free.proofs.join.Tie as tie

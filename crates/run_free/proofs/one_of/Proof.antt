@@ -1,5 +1,5 @@
 use Rattle.base.proofs.Tests.{picks}
-use Rattle.run_neighbours.specs.Release.{oneOf}
+use Rattle.run_neighbours.specs.Mirror.{oneOf}
 use Rattle.run_free.proofs.one_of.Statement.{statement}
 use Rattle.run_free.proofs.one_of.Tie as tie
 

@@ -1,4 +1,4 @@
-use Rattle.run_neighbours.specs.Release.{runPushed}
+use Rattle.run_neighbours.specs.Mirror.{runPushed}
 use borrow.Author.Needs.{needs}
 use Rattle.run_free.proofs.push_run.Statement.{statement}
 use Rattle.run_free.proofs.push_run.Tie as tie

@@ -1,4 +1,4 @@
-use Rattle.run_neighbours.specs.Release.{pagesReleased}
+use Rattle.run_neighbours.specs.Mirror.{pagesReleased}
 use borrow.Author.Needs.{needs}
 use Rattle.run_free.proofs.release.Statement.{statement}
 use Rattle.run_free.proofs.release.Tie as tie

@@ -1,4 +1,4 @@
-use Rattle.run_neighbours.specs.Release.{runUnlinked}
+use Rattle.run_neighbours.specs.Mirror.{runUnlinked}
 use borrow.Author.Needs.{needs}
 use Rattle.run_free.proofs.unlink_run.Statement.{statement}
 use Rattle.run_free.proofs.unlink_run.Tie as tie

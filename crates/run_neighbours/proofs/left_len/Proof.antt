@@ -1,5 +1,5 @@
 use Rattle.base.proofs.Tests.{picks}
-use Rattle.run_neighbours.specs.Release.{leftLen}
+use Rattle.run_neighbours.specs.Mirror.{leftLen}
 use borrow.Author.Needs.{needs}
 use Rattle.run_neighbours.proofs.left_len.Statement.{statement}
 use Rattle.run_neighbours.proofs.left_len.Tie as tie

@@ -1,5 +1,5 @@
 use Rattle.base.proofs.Tests.{picks}
-use Rattle.run_neighbours.specs.Release.{lenFrom}
+use Rattle.run_neighbours.specs.Mirror.{lenFrom}
 use Rattle.run_neighbours.proofs.len_from.Statement.{statement}
 use Rattle.run_neighbours.proofs.len_from.Tie as tie
 

@@ -1,5 +1,5 @@
 use Rattle.base.proofs.Tests.{picks}
-use Rattle.run_neighbours.specs.Release.{lenTo}
+use Rattle.run_neighbours.specs.Mirror.{lenTo}
 use borrow.Author.Needs.{needs}
 use Rattle.run_neighbours.proofs.len_to.Statement.{statement}
 use Rattle.run_neighbours.proofs.len_to.Tie as tie

@@ -1,5 +1,5 @@
 use Rattle.base.proofs.Tests.{picks}
-use Rattle.run_neighbours.specs.Release.{rightLen}
+use Rattle.run_neighbours.specs.Mirror.{rightLen}
 use borrow.Author.Needs.{needs}
 use Rattle.run_neighbours.proofs.right_len.Statement.{statement}
 use Rattle.run_neighbours.proofs.right_len.Tie as tie

@@ -1,4 +1,4 @@
-use Rattle.run_neighbours.specs.Release.{runFrom}
+use Rattle.run_neighbours.specs.Mirror.{runFrom}
 use borrow.Author.Needs.{needs}
 use Rattle.run_neighbours.proofs.run_from.Statement.{statement}
 use Rattle.run_neighbours.proofs.run_from.Tie as tie

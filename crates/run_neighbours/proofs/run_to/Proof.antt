@@ -1,4 +1,4 @@
-use Rattle.run_neighbours.specs.Release.{runTo}
+use Rattle.run_neighbours.specs.Mirror.{runTo}
 use borrow.Author.Needs.{needs}
 use Rattle.run_neighbours.proofs.run_to.Statement.{statement}
 use Rattle.run_neighbours.proofs.run_to.Tie as tie

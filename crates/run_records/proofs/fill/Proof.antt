@@ -1,7 +1,7 @@
 use mathlib.Core.Path.{_≡_}
 use Prim.Native.Nat.{_-_, _≤_}
 use lib.ListN.{length}
-use Rattle.run_extents.specs.Extents.{filled}
+use Rattle.run_extents.specs.Mirror.{filled}
 use Rattle.run_extents.proofs.Steps.{fills}
 use Rattle.run_records.proofs.fill.Statement.{statement}
 use Rattle.run_records.proofs.fill.Tie as tie

@@ -1,5 +1,5 @@
 use Rattle.base.proofs.Tests.{picks}
-use Rattle.run_extents.specs.Extents.{backed}
+use Rattle.run_extents.specs.Mirror.{backed}
 use borrow.Author.Needs.{needs}
 use Rattle.run_records.proofs.put_back.Statement.{statement}
 use Rattle.run_records.proofs.put_back.Tie as tie

@@ -1,4 +1,4 @@
-use Rattle.run_extents.specs.Extents.{lastBacked}
+use Rattle.run_extents.specs.Mirror.{lastBacked}
 use borrow.Author.Needs.{needs}
 use Rattle.run_records.proofs.put_last.Statement.{statement}
 use Rattle.run_records.proofs.put_last.Tie as tie

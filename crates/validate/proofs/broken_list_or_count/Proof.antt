@@ -1,4 +1,4 @@
-use Rattle.validate.specs.Broken.{fromRule3}
+use Rattle.validate.specs.Mirror.{fromRule3}
 use Rattle.validate.proofs.Answers.{firsts}
 use borrow.Author.Needs.{needs}
 use Rattle.validate.proofs.broken_list_or_count.Statement.{statement}

@@ -1,6 +1,6 @@
 use mathlib.Core.Path.{refl, sym, _∙_}
 use borrow.Author.Tests.{not-false}
-use Rattle.validate.specs.Broken.{fromRule2}
+use Rattle.validate.specs.Mirror.{fromRule2}
 use Rattle.validate.proofs.Answers.{all-zero, pick-fails, pick-passes}
 use Rattle.validate.proofs.broken_page.Statement.{statement}
 use Rattle.validate.proofs.broken_page.Tie as tie

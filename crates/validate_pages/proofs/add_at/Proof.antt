@@ -1,4 +1,4 @@
-use Rattle.validate_pages.specs.Tally.{addAt}
+use Rattle.validate_pages.specs.Mirror.{addAt}
 use borrow.Author.Needs.{needs}
 use Rattle.validate_pages.proofs.add_at.Statement.{statement}
 use Rattle.validate_pages.proofs.add_at.Tie as tie

@@ -1,6 +1,6 @@
 use Prim.Native.Nat.{_≤_}
 use native.Mathlib.Omega.{arith}
-use Rattle.validate_pages.specs.Tally.{classAdded}
+use Rattle.validate_pages.specs.Mirror.{classAdded}
 use borrow.Author.Needs.{needs}
 use Rattle.validate_pages.proofs.add_class.Statement.{statement}
 use Rattle.validate_pages.proofs.add_class.Tie as tie

@@ -1,4 +1,4 @@
-use Rattle.validate_pages.specs.Tally.{classFault}
+use Rattle.validate_pages.specs.Mirror.{classFault}
 use borrow.Author.Needs.{needs}
 use Rattle.validate_pages.proofs.class_fault.Statement.{statement}
 use Rattle.validate_pages.proofs.class_fault.Tie as tie

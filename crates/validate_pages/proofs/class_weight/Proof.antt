@@ -1,4 +1,4 @@
-use Rattle.validate_pages.specs.Tally.{classWeight}
+use Rattle.validate_pages.specs.Mirror.{classWeight}
 use borrow.Author.Needs.{needs}
 use Rattle.validate_pages.proofs.class_weight.Statement.{statement}
 use Rattle.validate_pages.proofs.class_weight.Tie as tie

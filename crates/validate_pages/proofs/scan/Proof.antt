@@ -7,7 +7,7 @@ use Rattle.base.specs.Tests.{allBelow}
 use Rattle.rules.specs.Rules.{rule2At, rule2}
 use Rattle.rules.specs.Bytes.{fieldsOf}
 use Rattle.branchless.proofs.Loops.{all-none, all-done}
-use Rattle.validate_runs.specs.Whole.{Border}
+use Rattle.validate_runs.specs.Mirror.{Border}
 use Rattle.validate_runs.proofs.Whole.{border-start}
 use Rattle.validate_pages.proofs.Pass.{Passed, pass-none, pass-done}
 use Rattle.validate_pages.proofs.Runs.{all-steps, pass-steps}

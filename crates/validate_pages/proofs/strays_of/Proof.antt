@@ -1,4 +1,4 @@
-use Rattle.validate_pages.specs.Tally.{strays}
+use Rattle.validate_pages.specs.Mirror.{strays}
 use borrow.Author.Needs.{needs}
 use Rattle.validate_pages.proofs.strays_of.Statement.{statement}
 use Rattle.validate_pages.proofs.strays_of.Tie as tie

@@ -1,4 +1,4 @@
-use Rattle.validate_runs.specs.Whole.{begins}
+use Rattle.validate_runs.specs.Mirror.{begins}
 use borrow.Author.Needs.{needs}
 use Rattle.validate_runs.proofs.begins_run.Statement.{statement}
 use Rattle.validate_runs.proofs.begins_run.Tie as tie

@@ -1,4 +1,4 @@
-use Rattle.validate_runs.specs.Whole.{freeInside}
+use Rattle.validate_runs.specs.Mirror.{freeInside}
 use Rattle.base.proofs.Tests.{pick-on, picks}
 use borrow.Author.Needs.{needs}
 use Rattle.validate_runs.proofs.free_inside.Statement.{statement}

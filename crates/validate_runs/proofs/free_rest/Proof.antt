@@ -1,4 +1,4 @@
-use Rattle.validate_runs.specs.Whole.{freeRest}
+use Rattle.validate_runs.specs.Mirror.{freeRest}
 use Rattle.base.proofs.Tests.{picks}
 use borrow.Author.Needs.{needs}
 use Rattle.validate_runs.proofs.free_rest.Statement.{statement}

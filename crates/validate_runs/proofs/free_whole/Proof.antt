@@ -1,6 +1,6 @@
 use mathlib.Core.Path.{refl, sym, _∙_}
 use Rattle.base.proofs.Tests.{pick-on, pick-off}
-use Rattle.validate_runs.specs.Whole.{freeWhole}
+use Rattle.validate_runs.specs.Mirror.{freeWhole}
 use Rattle.validate_runs.proofs.Whole.{begins-says}
 use borrow.Author.Needs.{needs}
 use Rattle.validate_runs.proofs.free_whole.Statement.{statement}

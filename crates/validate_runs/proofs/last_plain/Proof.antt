@@ -1,4 +1,4 @@
-use Rattle.validate_runs.specs.Whole.{lastPlain}
+use Rattle.validate_runs.specs.Mirror.{lastPlain}
 use Rattle.base.proofs.Tests.{picks}
 use borrow.Author.Needs.{needs}
 use Rattle.validate_runs.proofs.last_plain.Statement.{statement}

@@ -1,5 +1,5 @@
 use Rattle.rules.specs.Bytes.{fieldsOf, imageOf}
-use Rattle.validate_runs.specs.Whole.{plainAt}
+use Rattle.validate_runs.specs.Mirror.{plainAt}
 use borrow.Author.Needs.{needs}
 use Rattle.validate_runs.proofs.plain_at.Statement.{statement}
 use Rattle.validate_runs.proofs.plain_at.Tie as tie

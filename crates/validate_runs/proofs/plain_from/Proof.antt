@@ -4,7 +4,7 @@ use mathlib.Core.Bool.{true}
 use Prim.Native.Nat.{_+_, _-_, _≤_}
 use Rattle.base.specs.Tests.{allBelow}
 use Rattle.branchless.proofs.Loops.{alls, all-more, all-fails}
-use Rattle.validate_runs.specs.Whole.{plainAt, plainFrom}
+use Rattle.validate_runs.specs.Mirror.{plainAt, plainFrom}
 use Rattle.validate_runs.proofs.plain_from.Statement.{statement}
 use Rattle.validate_runs.proofs.plain_from.Tie as tie
 

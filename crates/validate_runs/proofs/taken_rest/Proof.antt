@@ -1,4 +1,4 @@
-use Rattle.validate_runs.specs.Whole.{takenRest}
+use Rattle.validate_runs.specs.Mirror.{takenRest}
 use Rattle.base.proofs.Tests.{picks}
 use borrow.Author.Needs.{needs}
 use Rattle.validate_runs.proofs.taken_rest.Statement.{statement}

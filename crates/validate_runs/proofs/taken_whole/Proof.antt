@@ -1,7 +1,7 @@
 use mathlib.Core.Path.{refl, sym, _∙_}
 use Rattle.base.proofs.Tests.{pick-on, pick-off}
 use Rattle.base.proofs.AllBelow.{each-of}
-use Rattle.validate_runs.specs.Whole.{takenWhole}
+use Rattle.validate_runs.specs.Mirror.{takenWhole}
 use Rattle.validate_runs.proofs.Whole.{begins-says}
 use borrow.Author.Needs.{needs}
 use Rattle.validate_runs.proofs.taken_whole.Statement.{statement}

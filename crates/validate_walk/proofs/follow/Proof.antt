@@ -4,7 +4,7 @@ use Rattle.records.specs.Layout.{noPage}
 use Rattle.rules.specs.Fields.{next, prev}
 use Rattle.rules.specs.Rules.{linked}
 use Rattle.rules.specs.Bytes.{fieldsOf}
-use Rattle.validate_walk.specs.Walk.{belongs}
+use Rattle.validate_walk.specs.Mirror.{belongs}
 use Rattle.validate_walk.proofs.Steps.{at-bad, at-back, at-on, at-end}
 use Rattle.validate_walk.proofs.follow.Statement.{statement}
 use Rattle.validate_walk.proofs.follow.Tie as tie

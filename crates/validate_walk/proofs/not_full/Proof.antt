@@ -1,4 +1,4 @@
-use Rattle.map_occupancy.specs.Occupancy.{isFull}
+use Rattle.map_occupancy.specs.Mirror.{isFull}
 use Rattle.rules.specs.Bytes.{mapBase}
 use native.Mathlib.Omega.{arith}
 use Prim.Native.Nat.{ℕ, _/_}

@@ -1,4 +1,4 @@
-use Rattle.words.specs.Swap.{withLittleHalf}
+use Rattle.words.specs.Mirror.{withLittleHalf}
 use borrow.Author.Needs.{needs}
 use Rattle.words.proofs.put32.Statement.{statement}
 use Rattle.words.proofs.put32.Tie as tie

@@ -1,4 +1,4 @@
-use Rattle.words.specs.Swap.{withLittleWord}
+use Rattle.words.specs.Mirror.{withLittleWord}
 use borrow.Author.Needs.{needs}
 use Rattle.words.proofs.put_little64.Statement.{statement}
 use Rattle.words.proofs.put_little64.Tie as tie

@@ -1,6 +1,6 @@
 use mathlib.Core.Path.{refl}
 use native.Mathlib.Omega.{arith}
-use Rattle.words.specs.Swap.{swapPair}
+use Rattle.words.specs.Mirror.{swapPair}
 use borrow.Author.Needs.{needs}
 use Rattle.words.proofs.swap16.Statement.{statement}
 use Rattle.words.proofs.swap16.Tie as tie

@@ -1,5 +1,5 @@
 use native.Mathlib.Omega.{arith}
-use Rattle.words.specs.Swap.{swapHalf}
+use Rattle.words.specs.Mirror.{swapHalf}
 use borrow.Author.Needs.{needs}
 use Rattle.words.proofs.swap32.Statement.{statement}
 use Rattle.words.proofs.swap32.Tie as tie

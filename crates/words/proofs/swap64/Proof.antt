@@ -1,4 +1,4 @@
-use Rattle.words.specs.Swap.{swapWord}
+use Rattle.words.specs.Mirror.{swapWord}
 use borrow.Author.Needs.{needs}
 use Rattle.words.proofs.swap64.Statement.{statement}
 use Rattle.words.proofs.swap64.Tie as tie

@@ -9,5 +9,5 @@ use Rattle.rules.specs.Rules.{mapFits}
 use Rattle.rules.specs.Bytes.{markAt, fieldsOf}
 
 -- of page p, which has class c: its own chunks are marked, and the map field is as it should be
-unfoldable pub mapHolds : ℕ → List ℕ → ℕ → ℕ → Bool
+unfoldable pub mapHolds : (w : ℕ) (s : List ℕ) (p c : ℕ) → Bool
 mapHolds w s p c = pick (allBelow (markAt w s p c) (own c)) (mapFits (map (fieldsOf w s) p) c) false

@@ -5,7 +5,7 @@ use mathlib.Core.List.{List}
 use Prim.Native.Nat.{ℕ, _≤_}
 use Rattle.rules.specs.Rules.{rule2}
 use Rattle.rules.specs.Bytes.{pagesIn, fieldsOf}
-use Rattle.validate_pages.specs.Tally.{Counted}
+use Rattle.validate_pages.specs.Mirror.{Counted}
 
 pub record Scanned (w : ℕ) (s : List ℕ) (n : ℕ) (t : List ℕ) : Type 0 where
   pub pages : n ≡ pagesIn w s

@@ -10,14 +10,14 @@ use Rattle.records.specs.Page.{linksAt, withLinks}
 use Rattle.model.specs.Classes.{own}
 use Rattle.maps.specs.Bitmap.{withMark}
 use Rattle.maps.specs.Mirror.{withNewMap}
-use Rattle.lists.specs.Links.{unlinked, pushed}
+use Rattle.lists.specs.Mirror.{unlinked, pushed}
 use Rattle.rules.specs.Drawn.{links}
 use Rattle.rules.specs.Bytes.{mapBase}
-use Rattle.run_extents.specs.Extents.{frontPage}
-use Rattle.run_neighbours.specs.Release.{pagesReleased}
-use Rattle.map_count.specs.Popcount.{mapBits}
-use Rattle.map_occupancy.specs.Occupancy.{isFull, lastFree, lastTaken}
-use Rattle.classes.specs.Classes.{mapWord, countUsed, countPageUsed, countBack, countPageBack}
+use Rattle.run_extents.specs.Mirror.{frontPage}
+use Rattle.run_neighbours.specs.Mirror.{pagesReleased}
+use Rattle.map_count.specs.Mirror.{mapBits}
+use Rattle.map_occupancy.specs.Mirror.{isFull, lastFree, lastTaken}
+use Rattle.classes.specs.Mirror.{mapWord, countUsed, countPageUsed, countBack, countPageBack}
 
 -- ---- class lists
 
@@ -30,47 +30,47 @@ abbrev pub classLinks : ℕ → Links
 classLinks c = links 2 c 0 noPage noPage
 
 -- page p leaves the list of class c
-unfoldable pub delisted : ℕ → List ℕ → ℕ → ℕ → List ℕ
+unfoldable pub delisted : (w : ℕ) (s : List ℕ) (c p : ℕ) → List ℕ
 delisted w s c p = unlinked w s (listOf c) (linksAt w s p)
 
 -- and stays a class page
-unfoldable pub setAside : ℕ → List ℕ → ℕ → ℕ → List ℕ
+unfoldable pub setAside : (w : ℕ) (s : List ℕ) (c p : ℕ) → List ℕ
 setAside w s c p = withLinks w (delisted w s c p) p (classLinks c)
 
 -- page p comes in front of the list of class c
-unfoldable pub enlisted : ℕ → List ℕ → ℕ → ℕ → List ℕ
+unfoldable pub enlisted : (w : ℕ) (s : List ℕ) (c p : ℕ) → List ℕ
 enlisted w s c p = pushed w s (listOf c) p (classLinks c)
 
 -- page p is to have one chunk more taken: if that makes it full it leaves the list
-unfoldable pub fullLeaves : ℕ → List ℕ → ℕ → ℕ → Bool → List ℕ
+unfoldable pub fullLeaves : (w : ℕ) (s : List ℕ) (c p : ℕ) (last : Bool) → List ℕ
 fullLeaves w s c p last = pick last (setAside w s c p) s
 
 -- page p is to have one chunk fewer taken: if it was full it returns to the head of the list
-unfoldable pub fullReturns : ℕ → List ℕ → ℕ → ℕ → Bool → List ℕ
+unfoldable pub fullReturns : (w : ℕ) (s : List ℕ) (c p : ℕ) (full : Bool) → List ℕ
 fullReturns w s c p full = pick full (enlisted w s c p) s
 
 -- ---- the operations
 
 -- chunk i of page p, the first on the list of class c, is handed out
-unfoldable pub chunkTaken : ℕ → List ℕ → ℕ → ℕ → ℕ → ℕ → List ℕ
+unfoldable pub chunkTaken : (w : ℕ) (s : List ℕ) (P c p i : ℕ) → List ℕ
 chunkTaken w s P c p i = countUsed w (withMark (fullLeaves w s c p (lastFree s (mapWord w P p c) c i)) (mapBase w P p c) i true) c
 
 -- the whole map of page p, which is new: the map's own chunks and the first after them are taken
-unfoldable pub newMapAt : ℕ → List ℕ → ℕ → ℕ → ℕ → List ℕ
+unfoldable pub newMapAt : (w : ℕ) (s : List ℕ) (P c p : ℕ) → List ℕ
 newMapAt w s P c p = withNewMap s (mapBase w P p c) (mapBits c / 8) (own c + 1)
 
 -- the first page of the free run that starts in page p becomes the only page on the list of class c, and its first chunk is handed out
-unfoldable pub pageCut : ℕ → List ℕ → ℕ → ℕ → ℕ → List ℕ
+unfoldable pub pageCut : (w : ℕ) (s : List ℕ) (P c p : ℕ) → List ℕ
 pageCut w s P c p = countPageUsed w (newMapAt w (enlisted w (frontPage w s p) c p) P c p) c
 
 -- chunk i of page p comes back and others stay taken
-unfoldable pub chunkKept : ℕ → List ℕ → ℕ → ℕ → ℕ → ℕ → List ℕ
+unfoldable pub chunkKept : (w : ℕ) (s : List ℕ) (P c p i : ℕ) → List ℕ
 chunkKept w s P c p i = countBack w (withMark (fullReturns w s c p (isFull s (mapWord w P p c) c)) (mapBase w P p c) i false) c
 
 -- the last chunk i of page p comes back: the page leaves the list and is released
-unfoldable pub pageDropped : ℕ → List ℕ → ℕ → ℕ → ℕ → ℕ → List ℕ
+unfoldable pub pageDropped : (w : ℕ) (s : List ℕ) (P c p i : ℕ) → List ℕ
 pageDropped w s P c p i = countPageBack w (withMark (pagesReleased w (delisted w s c p) P p 1) (mapBase w P p c) i false) c
 
 -- chunk i of page p comes back
-unfoldable pub chunkFreed : ℕ → List ℕ → ℕ → ℕ → ℕ → ℕ → List ℕ
+unfoldable pub chunkFreed : (w : ℕ) (s : List ℕ) (P c p i : ℕ) → List ℕ
 chunkFreed w s P c p i = pick (lastTaken s (mapWord w P p c) c i) (pageDropped w s P c p i) (chunkKept w s P c p i)

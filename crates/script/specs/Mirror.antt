@@ -23,7 +23,7 @@ nextOn s none = s
 nextOn s (some call) = after 2 s call
 
 -- a function that serves a request on the pool s makes t of it, prints the reply from place n of the slice u on, which becomes v, and answers the place r after it
-abbrev pub Serves : List ℕ → List ℕ → List ℕ → List ℕ → ℕ → ℕ → Option Call → Type 0
+abbrev pub Serves : (s t u v : List ℕ) (n r : ℕ) (x : Option Call) → Type 0
 Serves s t u v n r x = (r ≡ n + length (replyOn s x)) × (v ≡ written u n (replyOn s x)) × (t ≡ nextOn s x)
 
 abbrev pub repliesOn : List ℕ → List (List ℕ) → List (List ℕ)
@@ -35,12 +35,12 @@ finalOn s [] = s
 finalOn s (l ∷ ls) = finalOn (nextOn s (request l)) ls
 
 -- what is printed for the lines of an input
-unfoldable pub textOn : List ℕ → List (List ℕ) → List ℕ
+unfoldable pub textOn : (s : List ℕ) (ls : List (List ℕ)) → List ℕ
 textOn s ls = joined (repliesOn s ls)
 
 -- .. and with the first line and the last
-unfoldable pub exchangeOn : List ℕ → List (List ℕ) → List ℕ
+unfoldable pub exchangeOn : (s : List ℕ) (ls : List (List ℕ)) → List ℕ
 exchangeOn s ls = textOn s ls ++ summaryOf 2 (finalOn s ls)
 
-unfoldable pub printoutOn : List ℕ → List ℕ → List ℕ
+unfoldable pub printoutOn : (s input : List ℕ) → List ℕ
 printoutOn s input = formatLine (formatOutcome 2 (length s)) ++ exchangeOn (formatted 2 s) (lines input)

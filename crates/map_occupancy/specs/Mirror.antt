@@ -8,36 +8,36 @@ use Rattle.base.specs.Tests.{pick, allBelow}
 use Rattle.words.specs.Word.{word}
 use Rattle.maps.specs.Bitmap.{bitsOf}
 use Rattle.model.specs.Classes.{chunks, own}
-use Rattle.map_count.specs.Popcount.{mapBits}
+use Rattle.map_count.specs.Mirror.{mapBits}
 
 -- the m words from k on are those of the marks e
-unfoldable pub marksAre : List ℕ → ℕ → ℕ → (ℕ → Bool) → Bool
+unfoldable pub marksAre : (s : List ℕ) (k m : ℕ) (e : (ℕ → Bool)) → Bool
 marksAre s k m e = allBelow (λ j. eqb (word s (k + j)) (bitsOf (λ b. e (64 * j + b)) 64)) m
 
 -- the marks of a full page of class c
-unfoldable pub fullMarks : ℕ → ℕ → Bool
+unfoldable pub fullMarks : (c b : ℕ) → Bool
 fullMarks c b = ltb b (chunks c)
 
 -- the map's own
-unfoldable pub ownMarks : ℕ → ℕ → Bool
+unfoldable pub ownMarks : (c b : ℕ) → Bool
 ownMarks c b = ltb b (own c)
 
-unfoldable pub isFull : List ℕ → ℕ → ℕ → Bool
+unfoldable pub isFull : (s : List ℕ) (k c : ℕ) → Bool
 isFull s k c = marksAre s k (mapBits c / 64) (fullMarks c)
 
 -- chunk i alone is free
-unfoldable pub lastFree : List ℕ → ℕ → ℕ → ℕ → Bool
+unfoldable pub lastFree : (s : List ℕ) (k c i : ℕ) → Bool
 lastFree s k c i = marksAre s k (mapBits c / 64) (upd (fullMarks c) i false)
 
 -- chunk i alone is in a caller's hands
-unfoldable pub lastTaken : List ℕ → ℕ → ℕ → ℕ → Bool
+unfoldable pub lastTaken : (s : List ℕ) (k c i : ℕ) → Bool
 lastTaken s k c i = marksAre s k (mapBits c / 64) (upd (ownMarks c) i true)
 
 -- ---- as the code compares
 
 -- word j of a map that has `odd` as word `at`, and else begins with `first` and goes on with `rest`
-unfoldable pub expected : ℕ → ℕ → ℕ → ℕ → ℕ → ℕ
+unfoldable pub expected : (first rest at odd j : ℕ) → ℕ
 expected first rest at odd j = pick (eqb j at) odd (pick (eqb j 0) first rest)
 
-unfoldable pub wordsAre : List ℕ → ℕ → ℕ → ℕ → ℕ → ℕ → ℕ → Bool
+unfoldable pub wordsAre : (s : List ℕ) (k m first rest at odd : ℕ) → Bool
 wordsAre s k m first rest at odd = allBelow (λ j. eqb (word s (k + j)) (expected first rest at odd j)) m

@@ -6,14 +6,15 @@ use lib.Dec.{ltb}
 use Rattle.base.specs.Tests.{pick}
 use Rattle.records.specs.Layout.{mapPlace}
 use Rattle.records.specs.declared.ClassRecord.{ClassRecord}
-use Rattle.records.specs.Class.{usedTo, totalTo, reqsTo, failsTo, classAt, withClass}
+use Rattle.records.specs.Class.{classAt, withClass}
+use Rattle.records.specs.Mirror.{usedTo, totalTo, reqsTo, failsTo}
 use Rattle.model.specs.Classes.{own, counted}
 use Rattle.model.specs.Calls.{raise}
 
 -- ---- the map of a page
 
 -- the word that the map of page p, of class c, begins with
-unfoldable pub mapWord : ℕ → ℕ → ℕ → ℕ → ℕ
+unfoldable pub mapWord : (w P p c : ℕ) → ℕ
 mapWord w P p c = pick (ltb c 3) (1 + 9 * w + 2 * P + 512 * p) (mapPlace w p)
 
 -- the least first word of a map in which the map's own chunks are marked: they have its top bits
@@ -31,7 +32,7 @@ abbrev pub chunkUsed : ClassRecord → ClassRecord
 chunkUsed r = usedTo (chunkAsked r) (r .used % 16777216 + 1)
 
 -- of a new page
-abbrev pub pageUsed : ℕ → ClassRecord → ClassRecord
+abbrev pub pageUsed : (c : ℕ) (r : ClassRecord) → ClassRecord
 pageUsed c r = totalTo (chunkUsed r) (r .total % 16777216 + counted c)
 
 -- or could not be handed out
@@ -43,21 +44,21 @@ abbrev pub chunkBack : ClassRecord → ClassRecord
 chunkBack r = usedTo r (r .used - 1)
 
 -- and with it its page
-abbrev pub pageBack : ℕ → ClassRecord → ClassRecord
+abbrev pub pageBack : (c : ℕ) (r : ClassRecord) → ClassRecord
 pageBack c r = totalTo (chunkBack r) (r .total - counted c)
 
-unfoldable pub countUsed : ℕ → List ℕ → ℕ → List ℕ
+unfoldable pub countUsed : (w : ℕ) (s : List ℕ) (c : ℕ) → List ℕ
 countUsed w s c = withClass w s c (chunkUsed (classAt w s c))
 
-unfoldable pub countPageUsed : ℕ → List ℕ → ℕ → List ℕ
+unfoldable pub countPageUsed : (w : ℕ) (s : List ℕ) (c : ℕ) → List ℕ
 countPageUsed w s c = withClass w s c (pageUsed c (classAt w s c))
 
-unfoldable pub countBack : ℕ → List ℕ → ℕ → List ℕ
+unfoldable pub countBack : (w : ℕ) (s : List ℕ) (c : ℕ) → List ℕ
 countBack w s c = withClass w s c (chunkBack (classAt w s c))
 
-unfoldable pub countPageBack : ℕ → List ℕ → ℕ → List ℕ
+unfoldable pub countPageBack : (w : ℕ) (s : List ℕ) (c : ℕ) → List ℕ
 countPageBack w s c = withClass w s c (pageBack c (classAt w s c))
 
 -- a chunk of class c was asked for and there is none
-unfoldable pub chunkRefused : ℕ → List ℕ → ℕ → List ℕ
+unfoldable pub chunkRefused : (w : ℕ) (s : List ℕ) (c : ℕ) → List ℕ
 chunkRefused w s c = withClass w s c (noneUsed (classAt w s c))

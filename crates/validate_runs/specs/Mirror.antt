@@ -14,35 +14,35 @@ use Rattle.rules.specs.Rules.{endsFree, endsTaken, rule2At}
 use Rattle.rules.specs.Bytes.{fieldsOf}
 
 -- page p has the links of the word v and no map
-unfoldable pub plainAt : ℕ → List ℕ → ℕ → ℕ → Bool
+unfoldable pub plainAt : (w : ℕ) (s : List ℕ) (v p : ℕ) → Bool
 plainAt w s v p = pick (eqb (word s (linksPlace w p)) v) (eqb (map (fieldsOf w s) p) 0) false
 
 -- so have the m pages from p on
-unfoldable pub plainFrom : ℕ → List ℕ → ℕ → ℕ → ℕ → Bool
+unfoldable pub plainFrom : (w : ℕ) (s : List ℕ) (v p m : ℕ) → Bool
 plainFrom w s v p m = allBelow (λ i. plainAt w s v (p + i)) m
 
 -- page p, with the links l, can begin a run of the n pages: class and map are 0, the run has a page and ends among them
-unfoldable pub begins : ℕ → List ℕ → ℕ → ℕ → Links → Bool
+unfoldable pub begins : (w : ℕ) (s : List ℕ) (n p : ℕ) (l : Links) → Bool
 begins w s n p l = allOf (eqb (l .class) 0 ∷ eqb (map (fieldsOf w s) p) 0 ∷ ltb 0 (l .run) ∷ leb (p + l .run) n ∷ [])
 
 -- the last of the k free pages from p on leads back to p, where there are two or more
-unfoldable pub lastPlain : ℕ → List ℕ → ℕ → ℕ → Bool
+unfoldable pub lastPlain : (w : ℕ) (s : List ℕ) (p k : ℕ) → Bool
 lastPlain w s p k = pick (ltb 1 k) (plainAt w s (2198989701120 + 512 * p) (p + k - 1)) true
 
-unfoldable pub freeInside : ℕ → List ℕ → ℕ → ℕ → Bool
+unfoldable pub freeInside : (w : ℕ) (s : List ℕ) (p k : ℕ) → Bool
 freeInside w s p k = pick (lastPlain w s p k) (plainFrom w s 2199023255040 (p + 1) (k - 2)) false
 
-unfoldable pub freeRest : ℕ → List ℕ → ℕ → ℕ → ℕ → Bool
+unfoldable pub freeRest : (w : ℕ) (s : List ℕ) (n p k : ℕ) → Bool
 freeRest w s n p k = pick (endsFree (fieldsOf w s) n (p + k)) (freeInside w s p k) false
 
-unfoldable pub freeWhole : ℕ → List ℕ → ℕ → ℕ → Links → Bool
+unfoldable pub freeWhole : (w : ℕ) (s : List ℕ) (n p : ℕ) (l : Links) → Bool
 freeWhole w s n p l = pick (begins w s n p l) (freeRest w s n p (l .run)) false
 
-unfoldable pub takenRest : ℕ → List ℕ → ℕ → ℕ → ℕ → Bool
+unfoldable pub takenRest : (w : ℕ) (s : List ℕ) (n p k : ℕ) → Bool
 takenRest w s n p k =
     pick (endsTaken (fieldsOf w s) n (p + k)) (plainFrom w s 9223374235878030848 (p + 1) (k - 1)) false
 
-unfoldable pub takenWhole : ℕ → List ℕ → ℕ → ℕ → Links → Bool
+unfoldable pub takenWhole : (w : ℕ) (s : List ℕ) (n p : ℕ) (l : Links) → Bool
 takenWhole w s n p l =
     pick (allOf (begins w s n p l ∷ eqb (l .next .0) noPage ∷ eqb (l .prev .0) noPage ∷ [])) (takenRest w s n p (l .run)) false
 
@@ -54,5 +54,5 @@ pub record Kept (v : Fields) (n p k inner : ℕ) : Type 0 where
   pub rest : (j : ℕ) → p < j → j < p + k → (rule2At v n j ≡ true) × (kind v j ≡ inner)
 
 -- no page inside a run stands at p, unless rule 2 is broken there: where a run or a class page ends, and at the start
-abbrev pub Border : Fields → ℕ → ℕ → Type 0
+abbrev pub Border : (v : Fields) (n p : ℕ) → Type 0
 Border v n p = rule2At v n p ≡ true → (kind v p ≢ 0) × (kind v p ≢ 4)
