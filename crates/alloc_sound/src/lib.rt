@@ -18,6 +18,7 @@ ghost use Rattle.classes.specs.Mirror.{chunkRefused};
 ghost use Rattle.chunks.specs.Mirror.{pageCut};
 ghost use Rattle.alloc_sound.specs.Mirror.{chunkOutcome, chunkSlice, firstOutcome, cutOutcome, cutSlice, newOutcome, newSlice, fromOutcome, fromSlice, classOutcome, classSlice, runOutcome, runSlice, pagesOutcome, pagesSlice, allocOutcome, allocSlice};
 
+// Takes a block of at least `size` bytes (SPEC 4.4).
 pub fn alloc_sound(pool: &mut [u8], w: u8, pages: u16, size: u32) -> Allocated
     ensures answer { λ r. ⌜ ofAlloc r ≡ allocOutcome w (now (pool .entry)) pages size ⌝ }
     ensures slice { λ _. ⌜ now (pool .exit) ≡ allocSlice w (now (pool .entry)) pages size ⌝ }

@@ -45,6 +45,7 @@ fn put_first_page(pool: &mut [u8], w: u8, c: u8, p: PageNumber)
     record_class::put_class(pool, w, c, records::first_to(r, p));
 }
 
+// Page p becomes the list's first page.
 pub fn put_first(pool: &mut [u8], w: u8, list: u8, p: PageNumber)
     ensures { λ _. ⌜ now (pool .exit) ≡ withFirst w (now (pool .entry)) list (p .0) ⌝ }
 {

@@ -14,12 +14,14 @@ fn sum(a: u16, b: u16, c: u16) -> u16
     ((a as u32 + b as u32 + c as u32) % 65536) as u16
 }
 
+// Whether a run of n pages is there at all: its end or its first page is one page to blank.
 fn one_of(n: u16) -> u16
     ensures { λ r. ⌜ r ≡ oneOf n ⌝ }
 {
     if n == 0 { 0 } else { 1 }
 }
 
+// The header counts k free pages more.
 fn give_free(pool: &mut [u8], k: u16)
     ensures { λ _. ⌜ now (pool .exit) ≡ moreFree (now (pool .entry)) k ⌝ }
 {
@@ -43,6 +45,8 @@ fn drop_run(pool: &mut [u8], w: u8, n: u16, q: PageNumber)
     }
 }
 
+// The k pages from p on become pages inside a free run, and with them the last page of the run of a pages before them and the
+// first of the run of b pages after them, where there are such.
 fn blank(pool: &mut [u8], w: u8, p: PageNumber, k: u16, a: u16, b: u16)
     ensures { λ _. ⌜ now (pool .exit) ≡ blanked w (now (pool .entry)) (p .0) k a b ⌝ }
 {

@@ -56,6 +56,7 @@ fn is_none(rule: u8) -> bool
     rule == 0
 }
 
+// Whether the pool keeps all six rules.
 pub fn validate(pool: &[u8], w: u8) -> bool
     ensures { λ r. ⌜ r ≡ eqb (brokenRule w (now (pool .entry))) 0 ⌝ }
 {
