@@ -1,13 +1,13 @@
 -- Text written piece by piece.
 use mathlib.Core.Path.{_≡_, refl, sym, _∙_, ap}
-use mathlib.Core.List.{List, [], _∷_, _++_}
+use mathlib.Core.List.{List, [], _∷_, _++_, append-assoc}
 use Prim.Native.Nat.{ℕ, zero, suc, _+_, _-_, _/_, _%_, _≤_, _<_}
 use native.Mathlib.Numerals.{add-one}
 use native.Mathlib.Nat.{add-zero}
 use native.Mathlib.Omega.{arith}
 use lib.ListN.{length, getD, drop, set, length-append}
 use lib.Seq.{sets, drop-cons, drop-length}
-use Rattle.printing.specs.Text.{tenTo, digits, places, decimal, phrase, line, written}
+use Rattle.printing.specs.Text.{tenTo, digits, places, decimal, phrase, line, pairLine, linesOf, written, Prints}
 
 sets-append : (s : List ℕ) (n : ℕ) (xs ys : List ℕ) → sets s n (xs ++ ys) ≡ sets (sets s n xs) (n + length xs) ys
 sets-append s n [] ys = rw (add-zero n)
@@ -75,3 +75,26 @@ module _ (s t u word : List ℕ) (n v a r : ℕ) where
     g ∙ rw (e, f) (sym (newline-written s n (phrase word v))),
     omega (arith, h, l),
   )
+
+-- ---- one text after another
+
+pub prints-then : (s t u : List ℕ) (n a r : ℕ) (x y : List ℕ) → Prints s t n a x → Prints t u a r y → Prints s u n r (x ++ y)
+prints-then s t u n a r x y (e, f) (g, h) = (
+  rw (length-append x y) (omega (arith, e, g)),
+  h ∙ rw (e, f) (sym (written-append s n x y)),
+)
+
+pub prints-none : (s : List ℕ) (n : ℕ) → Prints s s n n []
+prints-none s n = (sym (add-zero n), sym (written-none s n))
+
+module _ (s t u first second : List ℕ) (n x y a r : ℕ) where
+  pub pair-does : (a ≡ n + length (phrase first x)) × (t ≡ written s n (phrase first x)) × (a ≤ n + length first + 10) →
+      (r ≡ a + length (line second y)) × (u ≡ written t a (line second y)) × (r ≤ a + length second + 11) →
+      Prints s u n r (pairLine first x second y)
+  unfolding pairLine
+  pair-does (e, f, _) (g, h, _) = prints-then s t u n a r (phrase first x) (line second y) (e, f) (g, h)
+
+-- the lines of two lists in a row
+pub lines-append : {A : Type 0} (f : A → List ℕ) (xs ys : List A) → linesOf f (xs ++ ys) ≡ linesOf f xs ++ linesOf f ys
+lines-append f [] ys = refl
+lines-append f (x ∷ xs) ys = rw (lines-append f xs ys) (sym (append-assoc (f x) (linesOf f xs) (linesOf f ys)))

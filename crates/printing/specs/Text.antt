@@ -38,6 +38,15 @@ phrase word v = word ++ decimal v
 unfoldable pub line : (word : List ℕ) (v : ℕ) → List ℕ
 line word v = phrase word v ++ (10 ∷ [])
 
+-- a word and a number, and once more, ended by a newline
+unfoldable pub pairLine : (first : List ℕ) (x : ℕ) (second : List ℕ) (y : ℕ) → List ℕ
+pairLine first x second y = phrase first x ++ line second y
+
+-- the lines of a list, one for each element
+abbrev pub linesOf : {A : Type 0} → (A → List ℕ) → List A → List ℕ
+linesOf f [] = []
+linesOf f (x ∷ xs) = f x ++ linesOf f xs
+
 -- ---- into a slice
 
 -- the text from place n on; what would lie past the end is dropped

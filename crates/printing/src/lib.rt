@@ -2,7 +2,7 @@
 ghost use mathlib.Core.Path.{_≡_};
 ghost use Prim.Native.Nat.{_+_, _/_, _%_, _≤_, _<_};
 ghost use lib.ListN.{length};
-ghost use Rattle.printing.specs.Text.{tenTo, manyPlaces, places, decimal, phrase, line, written, Prints};
+ghost use Rattle.printing.specs.Text.{tenTo, manyPlaces, places, decimal, phrase, line, pairLine, written, Prints};
 
 // Writes a text from place n on, and answers the place after it.
 pub fn put_text(out: &mut [u8], n: usize, text: &[u8]) -> usize
@@ -109,4 +109,13 @@ pub fn put_line(out: &mut [u8], n: usize, word: &[u8], v: u32) -> usize
     let after = put_phrase(out, n, word, v);
     cells::put_byte(out, after, 10);
     after + 1
+}
+
+// Two words with a number each, ended by a newline.
+pub fn put_pair(out: &mut [u8], n: usize, first: &[u8], x: u32, second: &[u8], y: u32) -> usize
+    requires { ⌜ n + length (now first) + length (now second) ≤ 1048566 ⌝ }
+    ensures { λ r. ⌜ Prints (now (out .entry)) (now (out .exit)) n r (pairLine (now (first .entry)) x (now (second .entry)) y) ⌝ }
+{
+    let after = put_phrase(out, n, first, x);
+    put_line(out, after, second, y)
 }
