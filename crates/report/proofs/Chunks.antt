@@ -2,24 +2,24 @@
 use mathlib.Core.Path.{_≡_, refl, sym, _∙_, ap, subst}
 use mathlib.Core.Logic.{_≢_}
 use mathlib.Core.Bool.{Bool, true, false, cond, _&&_}
-use mathlib.Core.List.{List, [], _∷_, _++_}
+use mathlib.Core.List.{List, [], _∷_}
 use Prim.Native.Nat.{ℕ, zero, suc, _+_, _*_, _≤_, _<_}
 use native.Mathlib.Numerals.{add-one}
 use native.Mathlib.Omega.{arith}
-use lib.Dec.{leb, ltb}
+use lib.Dec.{leb}
 use borrow.Author.Tests.{lt-ltb, le-leb, lt-leb}
 use Rattle.base.specs.Tests.{pick}
 use Rattle.model.specs.Classes.{chunk, chunks, own}
-use Rattle.model.specs.State.{Page, taken}
-use Rattle.model.specs.Live.{Block, small, large, chunksOn, blocksOn, blocksBelow, blocks}
+use Rattle.model.specs.State.{Page}
+use Rattle.model.specs.Live.{small, large, chunksOn, blocksOn, blocksBelow, blocks}
 use Rattle.maps.specs.Bitmap.{mark}
 use Rattle.records.specs.Page.{linksAt}
 use Rattle.records.specs.declared.Links.{Links}
 use Rattle.rules.specs.Fields.{kind, class, run, pageOf, pageAt}
 use Rattle.rules.specs.Read.{readFields}
-use Rattle.rules.specs.Bytes.{pagesIn, mapBase, markAt, imageOf, fieldsOf, brokenRule, read}
+use Rattle.rules.specs.Bytes.{pagesIn, mapBase, markAt, imageOf, fieldsOf, read}
 use Rattle.rules.proofs.Judged.{judged}
-use Rattle.printing.specs.Text.{linesOf, written, Prints}
+use Rattle.printing.specs.Text.{linesOf, Prints}
 use Rattle.printing.proofs.Writing.{prints-none, prints-then, lines-append}
 use Rattle.report_lines.specs.Lines.{blockLine}
 use Rattle.report.specs.Mirror.{Sound, markedChunk}

@@ -1,24 +1,32 @@
 -- The claims of `specs/Claim.antt`.
 use mathlib.Core.Path.{_≡_, refl, sym, _∙_, ap, subst}
 use mathlib.Core.Logic.{_⊎_, inl, inr, _↔_}
-use mathlib.Core.Bool.{Bool, true, false}
+use mathlib.Core.Bool.{true}
 use mathlib.Core.List.{List, [], _∷_, _++_}
 use Prim.Native.Nat.{ℕ, zero, suc, _+_, _≤_, _<_}
 use native.Mathlib.Omega.{arith}
+use lib.ListN.{length}
+use borrow.Author.Tests.{lt-ltb, le-ltb, eq-eqb, ne-eqb}
 use Rattle.base.specs.Lists.{Mem}
+use Rattle.base.proofs.AllBelow.{pick-yes, pick-no}
 use Rattle.base.proofs.Cases.{never, clash, lt?}
 use Rattle.base.proofs.Lists.{mem-cast, mem-append, append-left, append-right}
 use Rattle.words.specs.Word.{Bytes}
+use Rattle.answers.specs.declared.Refusal.the-variants.{TooLong}
 use Rattle.model.specs.State.{Page, idle, slab, taken, inside, edge, Run, State, isIdle}
 use Rattle.model.specs.Runs.{startsAt}
 use Rattle.model.specs.WellFormed.{WellFormed}
 use Rattle.model.specs.View.{Kind, vacant, class, runOf, within, View, kindOf, shown}
 use Rattle.model.proofs.Runs.{run-path, Keyed, keyed, starts-at}
 use Rattle.model.proofs.Claim.{claims as model-claims}
-use Rattle.rules.specs.Bytes.{pagesIn, brokenRule, read}
+use Rattle.rules.specs.Bytes.{brokenRule, read}
+use Rattle.rules.specs.Judged.{Rule}
+use Rattle.rules.proofs.Judged.{judged}
+use Rattle.printing.specs.Text.{line}
+use Rattle.script_replies.specs.Replies.{refusalLine}
 use Rattle.drawing.proofs.Laws.{claims as laws-of}
 use Rattle.report_lines.specs.Lines.{Span, freeSpan, takenSpan}
-use Rattle.report.specs.Report.{freeAt, takenAt, spansAt, spansBelow, spans}
+use Rattle.report.specs.Report.{tooLong, freeAt, takenAt, spansAt, spansBelow, spans, reportOf, judgedText, printout}
 use Rattle.report.specs.Claim.{firstOf, RisingSpans, Listed, Claims}
 use Rattle.report.proofs.Room.{fits}
 
@@ -207,10 +215,32 @@ all-listed image b e =
     record {
       live = model-claims .placing m W .listed;
       rising = model-claims .placing m W .rising;
-      free = free-listed m W;
-      taken = taken-listed m W;
+      free-runs = free-listed m W;
+      taken-runs = taken-listed m W;
       in-order = in-order m W;
     }
 
+-- ---- which of the three is printed
+
+module _ (image : List ℕ) where
+  long-refused : tooLong ≤ length image → printout image ≡ refusalLine TooLong
+  unfolding printout
+  long-refused h = pick-no _ _ _ (le-ltb (length image) tooLong h)
+
+  module _ (h : length image < tooLong) where
+    short-judged : printout image ≡ judgedText image (brokenRule 2 image)
+    unfolding printout
+    short-judged = pick-yes _ _ _ (lt-ltb (length image) tooLong h)
+
+    rule-told : (k : ℕ) → 1 ≤ k → k ≤ 6 → ((j : ℕ) → 1 ≤ j → j < k → Rule 2 image j) → ¬ Rule 2 image k → printout image ≡ line [] k
+    unfolding judgedText
+    rule-told k l f before broken =
+        let e : brokenRule 2 image ≡ k = judged 2 image .broken k l f .1 (before, broken) in
+        short-judged ∙ ap (judgedText image) e ∙ pick-no _ _ _ (ne-eqb k 0 (λ z. absurd (omega (arith, l, z))))
+
+    sound-reported : brokenRule 2 image ≡ 0 → printout image ≡ reportOf (read 2 image)
+    unfolding judgedText
+    sound-reported e = short-judged ∙ pick-yes _ _ _ (eq-eqb (brokenRule 2 image) 0 e)
+
 pub claims : Claims
-claims = record { listed = all-listed; fits = fits }
+claims = record { refused = long-refused; told = rule-told; reported = sound-reported; listed = all-listed; fits = fits }

@@ -1,8 +1,8 @@
 -- The line of a class, from its record.
-use mathlib.Core.Path.{_≡_, refl, sym, _∙_, ap}
+use mathlib.Core.Path.{_≡_, refl, _∙_, ap}
 use mathlib.Core.Bool.{false, not}
 use mathlib.Core.List.{List}
-use Prim.Native.Nat.{ℕ, _*_, _/_, _≤_, _<_}
+use Prim.Native.Nat.{ℕ, _/_, _≤_, _<_}
 use native.Mathlib.Omega.{arith}
 use native.Mathlib.Nat.{mul-div-cancel}
 use lib.Dec.{ltb}
@@ -11,12 +11,11 @@ use Rattle.base.specs.Tests.{pick}
 use Rattle.base.specs.Search.{least, any}
 use Rattle.base.proofs.Search.{any-false}
 use Rattle.model.specs.Classes.{chunk, chunks, counted}
-use Rattle.model.specs.State.{State}
 use Rattle.model.specs.View.{View, totalIn, shown}
 use Rattle.records.specs.Class.{classAt}
 use Rattle.records.specs.declared.ClassRecord.{ClassRecord}
 use Rattle.rules.specs.Read.{tallyOf, readFields}
-use Rattle.rules.specs.Bytes.{pagesIn, imageOf, fieldsOf, read}
+use Rattle.rules.specs.Bytes.{imageOf, fieldsOf, read}
 use Rattle.demands.specs.Shown.{fieldView, shownBy}
 use Rattle.demands.proofs.Calls.{view-is}
 use Rattle.printing.specs.Text.{Prints}

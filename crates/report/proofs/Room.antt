@@ -12,13 +12,13 @@ use Rattle.answers.specs.declared.Refusal.the-variants.{TooLong}
 use Rattle.model.specs.Classes.{chunk, chunks, own}
 use Rattle.model.specs.State.{Page, idle, slab, taken, inside, edge, State}
 use Rattle.model.specs.View.{Kind, vacant, class, runOf, within, View, shown}
-use Rattle.model.specs.Live.{Block, small, large, chunksOn, blocksOn, blocksBelow, blocks}
+use Rattle.model.specs.Live.{small, chunksOn, blocksOn, blocksBelow, blocks}
 use Rattle.classes.proofs.Numbers.{chunks-512}
 use Rattle.rules.specs.Read.{readFields}
 use Rattle.rules.specs.Bytes.{pagesIn, brokenRule, read}
 use Rattle.printing.specs.Text.{line, linesOf}
 use Rattle.script_replies.specs.Replies.{poolWord, noWord, refusalLine}
-use Rattle.report_lines.specs.Lines.{Span, freeSpan, takenSpan, spanLine, blockLine}
+use Rattle.report_lines.specs.Lines.{spanLine, blockLine}
 use Rattle.report_lines.proofs.Room.{line-few, class-few, span-few, block-few, lines-few}
 use Rattle.report.specs.Report.{tooLong, classText, classesBelow, freeAt, takenAt, spansAt, spansBelow, spans, listing, reportOf, judgedText, printout}
 use Rattle.report.specs.Mirror.{Sound}

@@ -1,26 +1,25 @@
 -- The runs that start at a page, from its record.
 use mathlib.Core.Path.{_≡_, refl, sym, _∙_, ap, subst}
 use mathlib.Core.Logic.{_≢_}
-use mathlib.Core.Bool.{Bool, true, false}
+use mathlib.Core.Bool.{Bool}
 use mathlib.Core.List.{List, [], _∷_, _++_, append-nil}
 use Prim.Native.Nat.{ℕ, zero, suc, _+_, _≤_, _<_}
 use native.Mathlib.Numerals.{add-one}
 use native.Mathlib.Omega.{arith}
-use lib.Dec.{eqb, ltb}
-use lib.ListN.{length}
+use lib.Dec.{eqb}
 use borrow.Author.Tests.{lt-ltb, eq-eqb, ne-eqb}
 use Rattle.base.specs.Tests.{pick}
-use Rattle.model.specs.View.{Kind, View, kindOf, shown}
+use Rattle.model.specs.View.{View, kindOf, shown}
 use Rattle.records.specs.Page.{linksAt}
 use Rattle.records.specs.declared.Links.{Links}
 use Rattle.rules.specs.Fields.{kind, class, run, pageOf, pageAt}
 use Rattle.rules.specs.Read.{isHead, readFields}
-use Rattle.rules.specs.Bytes.{pagesIn, imageOf, fieldsOf, brokenRule, read}
+use Rattle.rules.specs.Bytes.{pagesIn, imageOf, fieldsOf, read}
 use Rattle.rules.proofs.Judged.{judged}
 use Rattle.demands.specs.Shown.{fieldView, shownBy}
-use Rattle.printing.specs.Text.{linesOf, written, Prints}
+use Rattle.printing.specs.Text.{linesOf, Prints}
 use Rattle.printing.proofs.Writing.{prints-none, prints-then, lines-append}
-use Rattle.report_lines.specs.Lines.{Span, freeSpan, takenSpan, spanLine}
+use Rattle.report_lines.specs.Lines.{freeSpan, takenSpan, spanLine}
 use Rattle.report.specs.Report.{freeAt, takenAt, spansAt, spansBelow, spans}
 use Rattle.report.specs.Mirror.{Sound, spansOf}
 use Rattle.report.proofs.Classes.{view}
@@ -99,7 +98,7 @@ pub spans-more : (v : View) (p : ℕ) (s t u : List ℕ) (n a r : ℕ) → Print
     Prints s u n r (linesOf spanLine (spansBelow v (p + 1)))
 unfolding spansBelow
 spans-more v p s t u n a r x y =
-    rw (add-one p, lines-append spanLine (spansBelow v p) (spansAt v p)) (prints-then s t u n a r _ _ x y)
+    rw (add-one p) (subst (λ (text : List ℕ). Prints s u n r text) (sym (lines-append spanLine (spansBelow v p) (spansAt v p))) (prints-then s t u n a r _ _ x y))
 
 pub spans-all : (s : List ℕ) (k p : ℕ) (u v : List ℕ) (n r : ℕ) → k ≡ pagesIn 2 s → p ≤ k → k ≤ p → Prints u v n r (linesOf spanLine (spansBelow (shown (read 2 s)) p)) →
     Prints u v n r (linesOf spanLine (spans (read 2 s)))

@@ -2,9 +2,12 @@
 // place after its lines. `pages` are the image's.
 use answers::Refusal;
 use records::CLASS_PAGE;
+use records::CLASS_WORD;
 use records::FIRST_FREE;
 use records::FIRST_TAKEN;
+use records::HEADER;
 use records::Links;
+use records::PAGE_AND_RECORD;
 use records::PageNumber;
 ghost use mathlib.Core.Path.{_≡_};
 ghost use Prim.Native.Nat.{_+_, _*_, _/_, _≤_, _<_};
@@ -19,9 +22,12 @@ ghost use Rattle.report_lines.specs.Lines.{spanLine, blockLine};
 ghost use Rattle.report.specs.Report.{tooLong, classText, classesBelow, spansAt, spans, listing, reportOf, judgedText, printout};
 ghost use Rattle.report.specs.Mirror.{Sound, spansOf, markedChunk};
 
+// The bytes of 13 pages with their records (`tooLong`).
+const TOO_LONG: usize = HEADER + 2 * CLASS_WORD + 13 * PAGE_AND_RECORD;
+
 // ---- classes
 
-// The pages of class c that a total counts.
+// The pages of class c, from its total.
 fn class_pages(total: u32, c: u8) -> u32
     requires { ⌜ c ≤ 8 ⌝ }
     ensures { λ r. ⌜ r ≡ total / counted c ⌝ }
@@ -54,6 +60,7 @@ fn put_classes(image: &[u8], out: &mut [u8], n: usize) -> usize
 
 // ---- runs
 
+// The run that starts at page p, by the kind and the length that its record says.
 fn put_run(out: &mut [u8], n: usize, kind: u8, p: u32, len: u32) -> usize
     requires { ⌜ n ≤ 1000000 ⌝ }
     ensures { λ r. ⌜ Prints (now (out .entry)) (now (out .exit)) n r (linesOf spanLine (spansOf kind p len)) ⌝ }
@@ -153,6 +160,7 @@ fn put_page(image: &[u8], pages: u16, p: u16, l: Links, out: &mut [u8], n: usize
     n
 }
 
+// The blocks that begin on page p.
 fn put_page_at(image: &[u8], pages: u16, p: u16, out: &mut [u8], n: usize) -> usize
     requires { ⌜ Sound (now image) pages × (p < pages) × (n ≤ 980000) ⌝ }
     ensures { λ r. ⌜ Prints (now (out .entry)) (now (out .exit)) n r (linesOf blockLine (blocksOn (read 2 (now (image .entry)) .page p) p)) ⌝ }
@@ -209,7 +217,7 @@ fn put_judged(image: &[u8], rule: u8, out: &mut [u8]) -> usize
 pub fn report(image: &[u8], out: &mut [u8]) -> usize
     ensures { λ r. ⌜ (r ≡ length (printout (now (image .entry)))) × (now (out .exit) ≡ written (now (out .entry)) 0 (printout (now (image .entry)))) × (r ≤ 262144) ⌝ }
 {
-    if image.len() < 53608 {
+    if image.len() < TOO_LONG {
         return put_judged(image, validate::broken_rule(image, 2), out);
     }
     script_replies::put_refusal(out, 0, Refusal::TooLong)

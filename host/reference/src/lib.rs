@@ -7,6 +7,7 @@
 //! - [`format()`], [`validate()`], [`alloc()`] and [`free()`] are the four calls.
 //! - [`view`] predicts, from calls and answers alone, what a pool must show.
 //! - [`script`] serves a text of takes and gives.
+//! - [`mod@report`] prints what the image of a pool holds.
 
 #![forbid(unsafe_code)]
 #![warn(missing_docs)]
@@ -15,6 +16,7 @@ pub mod class;
 pub mod layout;
 pub mod pool;
 pub mod refusal;
+pub mod report;
 pub mod script;
 pub mod validate;
 pub mod view;
@@ -22,6 +24,7 @@ pub mod view;
 pub use class::{need, Class, Need, CLASSES};
 pub use pool::{alloc, alloc_sound, format, free, free_sound};
 pub use refusal::Refusal;
+pub use report::report;
 pub use script::run_script;
 pub use validate::{broken_rule, validate};
 pub use view::{live_blocks, shown, Block, Call, LiveSet, View};

@@ -7,7 +7,8 @@ use std::fmt;
 pub enum Refusal {
     /// Format: the slice holds no page.
     TooShort,
-    /// Format: the slice holds more pages than a pool may have.
+    /// Format: the slice holds more pages than a pool may have. Report: the
+    /// image holds more than twelve.
     TooLong,
     /// Alloc or free: the pool's records are not sound.
     NotSound,
