@@ -42,7 +42,7 @@ word-number s at =
     let e : at + 6 + 1 ≡ at + 7 = omega arith in
     rw (a, b, c, d, e) (omega arith)
 
-bytes-marks : (s : List ℕ) (at : ℕ) → Bytes s → wordAt s at ≡ bitsOf (mark s at) 64
+pub bytes-marks : (s : List ℕ) (at : ℕ) → Bytes s → wordAt s at ≡ bitsOf (mark s at) 64
 bytes-marks s at B = word-number s at ∙ number-marks s at 8 (λ j l. B (at + j))
 
 -- the map that is word k of the pool

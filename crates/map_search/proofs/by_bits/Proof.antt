@@ -5,8 +5,8 @@ use native.Mathlib.Omega.{arith}
 use borrow.Author.Needs.{needs}
 use borrow.Author.Tests.{not-true, not-false}
 use Rattle.maps.proofs.Search.{Passed, Stopped, search-start, byte-start, bit-set, bit-clear, byte-done, search-done, search-hit, search-miss}
-use Rattle.map_search.proofs.lowest_clear.Statement.{statement}
-use Rattle.map_search.proofs.lowest_clear.Tie as tie
+use Rattle.map_search.proofs.by_bits.Statement.{statement}
+use Rattle.map_search.proofs.by_bits.Tie as tie
 
 -- the invariants: nothing is found yet, and the marks before this bit, or this byte, are set
 abbrev Inv-loop : tie.InvT-loop
@@ -101,8 +101,8 @@ returns c = search-hit _ _ _ _ (stopped (c .before)) (c .if2 .taken)
 returns-2 : tie.Need-returns-2 Inv-loop μ-loop Inv-search μ-search
 returns-2 c = search-miss _ _ _ _ (stopped (c .before)) (c .if2 .left)
 
-pub lowest-clear-spec : {M : Type 1} → statement M
-lowest-clear-spec =
+pub by-bits-spec : {M : Type 1} → statement M
+by-bits-spec =
     tie.close
     (tie.spec
     Inv-loop
