@@ -39,5 +39,5 @@ ofAlloc (allocated.At off) = granted (off .0)
 ofAlloc (allocated.Refused r) = refused r
 
 abbrev pub ofFree : Freed → Outcome
-ofFree freed.Done = granted 0
+ofFree (freed.Bytes n) = granted n
 ofFree (freed.Refused r) = refused r

@@ -17,7 +17,8 @@ pub enum Allocated {
 }
 
 pub enum Freed {
-    Done,
+    // the bytes released
+    Bytes(u32),
     Refused(Refusal),
 }
 

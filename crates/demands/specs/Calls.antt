@@ -14,10 +14,10 @@ use Rattle.model.specs.Calls.{Call, Alloc, Free, Answer, at, freed, no, step}
 use Rattle.rules.specs.Bytes.{pagesIn, mapBase, brokenRule, read}
 use Rattle.drawing.specs.Draw.{draw}
 
--- the model's answer as number and value (SPEC 4.1); a free tells no value
+-- the model's answer as number and value (SPEC 4.1)
 abbrev pub outcome : Answer → Outcome
 outcome (at off) = granted off
-outcome (freed n) = granted 0
+outcome (freed n) = granted n
 outcome (no k) = record { number = k; value = 0 }
 
 -- unsound records are refused with 3; on sound ones the model answers

@@ -5,13 +5,15 @@ use answers::Offset;
 use locate::ChunkAt;
 use locate::Found;
 use locate::RunAt;
+use records::PAGE;
 use records::PageNumber;
 ghost use mathlib.Core.Path.{_≡_};
-ghost use Prim.Native.Nat.{_%_};
+ghost use Prim.Native.Nat.{_*_, _%_, _≤_};
 ghost use Rattle.answers.specs.Outcome.{granted, ofFree};
+ghost use Rattle.model.specs.Classes.{chunk};
 ghost use Rattle.chunks.specs.Mirror.{chunkFreed};
 ghost use Rattle.run_neighbours.specs.Mirror.{pagesReleased};
-ghost use Rattle.free_sound.specs.Mirror.{foundOutcome, foundSlice, freeOutcome, freeSlice};
+ghost use Rattle.free_sound.specs.Mirror.{Classed, foundOutcome, foundSlice, freeOutcome, freeSlice};
 
 // Gives back the block that begins at the offset (SPEC 4.7).
 pub fn free_sound(pool: &mut [u8], w: u8, pages: u16, at: Offset) -> Freed
@@ -23,6 +25,7 @@ pub fn free_sound(pool: &mut [u8], w: u8, pages: u16, at: Offset) -> Freed
 }
 
 fn give(pool: &mut [u8], w: u8, pages: u16, f: Found) -> Freed
+    requires { ⌜ Classed f ⌝ }
     ensures answer { λ r. ⌜ ofFree r ≡ foundOutcome f ⌝ }
     ensures slice { λ _. ⌜ now (pool .exit) ≡ foundSlice w (now (pool .entry)) pages f ⌝ }
 {
@@ -34,7 +37,8 @@ fn give(pool: &mut [u8], w: u8, pages: u16, f: Found) -> Freed
 }
 
 fn give_chunk(pool: &mut [u8], w: u8, pages: u16, k: ChunkAt) -> Freed
-    ensures answer { λ r. ⌜ ofFree r ≡ granted 0 ⌝ }
+    requires { ⌜ k .class ≤ 8 ⌝ }
+    ensures answer { λ r. ⌜ ofFree r ≡ granted (chunk (k .class)) ⌝ }
     ensures slice { λ _. ⌜ now (pool .exit) ≡ chunkFreed w (now (pool .entry)) pages (k .class) (k .page .0) (k .index % 65536) ⌝ }
 {
     chunk_free::free_chunk(
@@ -45,13 +49,14 @@ fn give_chunk(pool: &mut [u8], w: u8, pages: u16, k: ChunkAt) -> Freed
         PageNumber(k.page.0),
         (k.index % 65536) as u16,
     );
-    Freed::Done
+    Freed::Bytes(sizes::chunk_size(k.class))
 }
 
 fn give_run(pool: &mut [u8], w: u8, pages: u16, r: RunAt) -> Freed
-    ensures answer { λ x. ⌜ ofFree x ≡ granted 0 ⌝ }
+    ensures answer { λ x. ⌜ ofFree x ≡ granted (4096 * r .pages) ⌝ }
     ensures slice { λ _. ⌜ now (pool .exit) ≡ pagesReleased w (now (pool .entry)) pages (r .page .0) (r .pages) ⌝ }
 {
     run_free::release(pool, w, pages, PageNumber(r.page.0), r.pages);
-    Freed::Done
+    let bytes = PAGE * r.pages as u32;
+    Freed::Bytes(bytes)
 }

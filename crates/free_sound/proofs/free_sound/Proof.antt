@@ -1,4 +1,5 @@
 use Rattle.free_sound.specs.Mirror.{freeOutcome, freeSlice}
+use Rattle.free_sound.proofs.Classed.{found-classed}
 use borrow.Author.Needs.{needs}
 use Rattle.free_sound.proofs.free_sound.Statement.{statement}
 use Rattle.free_sound.proofs.free_sound.Tie as tie
@@ -7,7 +8,7 @@ locate-requires : tie.Need-locate-requires
 locate-requires c κs = search needs
 
 give-requires : tie.Need-give-requires
-give-requires c κs = search needs
+give-requires c κs = rw (c .before .locate .ensures) (found-classed _ _ _ _)
 
 same-length : tie.Need-same-length
 same-length c = search needs

@@ -7,7 +7,7 @@ enum-known-f : tie.Need-enum-known-f
 enum-known-f c = search needs
 
 give-chunk-requires : tie.Need-give-chunk-requires
-give-chunk-requires c κs = search needs
+give-chunk-requires c κs = rw (c .before .before .f .given .1) at (c .before .before .before .before .before .pre)
 
 enum-known-f-2 : tie.Need-enum-known-f-2
 enum-known-f-2 c = search needs

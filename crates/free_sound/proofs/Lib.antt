@@ -1,0 +1,1 @@
+pub mod Classed  -- what is found is of one of the nine classes
