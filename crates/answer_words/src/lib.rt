@@ -39,7 +39,7 @@ pub fn freed_word(f: Freed) -> u64
     ensures { λ r. ⌜ r ≡ wordOf (ofFree f) ⌝ }
 {
     match f {
-        Freed::Done => 0,
+        Freed::Bytes(n) => n as u64,
         Freed::Refused(r) => refusal_word(answers::number(r)),
     }
 }

@@ -30,7 +30,7 @@ pub fn alloc(pool: &mut [u8], w: u8, size: u32) -> Allocated
     alloc_sound::alloc_sound(pool, w, pages, size)
 }
 
-// Gives back the block that starts at the offset.
+// Gives back the block that starts at the offset: the bytes released, or the refusal.
 pub fn free(pool: &mut [u8], w: u8, at: Offset) -> Freed
     requires { ⌜ 2 ≤ w ⌝ }
     ensures answer { λ r. ⌜ ofFree r ≡ answered w (now (pool .entry)) (Free (at .0)) ⌝ }

@@ -34,7 +34,7 @@ pub extern "C" fn dnk_alloc(pool: &mut [u8], size: u32) -> u64
     answer_words::allocated_word(pool::alloc(pool, size))
 }
 
-// Gives a block back: 0, or the refusal.
+// Gives a block back: the bytes released, or the refusal.
 #[no_mangle]
 pub extern "C" fn dnk_free(pool: &mut [u8], offset: u32) -> u64
     ensures answer { λ r. ⌜ r ≡ wordOf (answered 2 (now (pool .entry)) (Free offset)) ⌝ }

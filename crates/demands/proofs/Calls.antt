@@ -13,7 +13,7 @@ use Rattle.base.proofs.Cases.{clash, eq?, lt?, never}
 use Rattle.base.proofs.AllBelow.{pick-yes, pick-no}
 use Rattle.words.specs.Word.{Bytes}
 use Rattle.records.specs.Layout.{mapPlace, pagesFrom, pageCount}
-use Rattle.answers.specs.Outcome.{Outcome, refused}
+use Rattle.answers.specs.Outcome.{Outcome, granted, refused}
 use Rattle.answers.specs.declared.Refusal.the-variants.{NotSound}
 use Rattle.maps.specs.Bitmap.{withMark}
 use Rattle.maps.proofs.Marks.{length-withMark, withMark-bytes, withMark-outside}
@@ -25,7 +25,7 @@ use Rattle.model.specs.Calls.{Call, Alloc, Free, Answer, at, freed, no, noRoom,
 use Rattle.model.specs.Live.{Block, offset, extent, Off, Live}
 use Rattle.model.specs.Effects.{Effect, FreeEffect}
 use Rattle.model.specs.View.{View, Kind, vacant, class, runOf, within, shown}
-use Rattle.model.specs.Ruling.{Verdict, granted, refused as denied, verdict, clearIn, pageIn, runIn, allocRuling, freeRuling, pastEnd, ruling}
+use Rattle.model.specs.Ruling.{Verdict, granted as allowed, refused as denied, verdict, clearIn, pageIn, runIn, allocRuling, freeRuling, pastEnd, ruling}
 use Rattle.model.proofs.Claim.{claims}
 use Rattle.model.proofs.Classes.{bitmap-in-page, own-some, small-chunks, large-chunks}
 use Rattle.rules.specs.Bytes.{pagesIn, mapBase, brokenRule, read}
@@ -50,7 +50,7 @@ verdict-number (no k) = refl
 
 -- what is refused has a number
 abbrev Numbered : Verdict → Type 0
-Numbered granted = Unit {0}
+Numbered allowed = Unit {0}
 Numbered (denied k) = k ≢ 0
 
 numbered-if : (t : Bool) (a b : Verdict) → Numbered a → Numbered b → Numbered (cond t a b)
@@ -62,16 +62,16 @@ unfolding ruling allocRuling freeRuling noRoom outside notTaken notAStart
 numbered v (Alloc n) = go (needOf n)
   where
     go : (x : Need) → Numbered (allocRuling v x)
-    go (chunkOf c) = numbered-if (clearIn v c || pageIn v) granted (denied 4) tt (omega arith)
-    go (pages k) = numbered-if (runIn v k) granted (denied 4) tt (omega arith)
+    go (chunkOf c) = numbered-if (clearIn v c || pageIn v) allowed (denied 4) tt (omega arith)
+    go (pages k) = numbered-if (runIn v k) allowed (denied 4) tt (omega arith)
 numbered v (Free off) = numbered-if (pastEnd v off) (denied 5) _ (omega arith) (go (v .page (off / 4096)))
   where
     go : (x : Kind) → Numbered (freeRuling v (off / 4096) (off % 4096) x)
     go vacant = omega arith
     go (class c) =
         numbered-if (startsChunk c (off % 4096)) _ (denied 7)
-        (numbered-if (v .mark (off / 4096) (off % 4096 / chunk c)) granted (denied 6) tt (omega arith)) (omega arith)
-    go (runOf n) = numbered-if (eqb (off % 4096) 0) granted (denied 7) tt (omega arith)
+        (numbered-if (v .mark (off / 4096) (off % 4096 / chunk c)) allowed (denied 6) tt (omega arith)) (omega arith)
+    go (runOf n) = numbered-if (eqb (off % 4096) 0) allowed (denied 7) tt (omega arith)
     go within = omega arith
 
 -- so a number 0 means granted, and another one that the answer is a refusal
@@ -226,6 +226,9 @@ module _ (w : ℕ) (wide : 2 ≤ w) (narrow : w ≤ 255) (s : List ℕ) (B : Byt
         let same : cleared w s (Free off) ≡ s = refused-clears w s m (off / 4096) (off % 4096) j (m .page (off / 4096)) a in
         drawn-after (Free off) ∙ rw (same, claims .refusals m .free off j a) (L .sound-drawn sound)
 
+    free-tells : (e : Block) → liveIn w s e → answered w s (Free (offset e)) ≡ granted (extent e)
+    free-tells e l = sound-answer (Free (offset e)) ∙ ap outcome (claims .live-freed m W e l)
+
     free-granted : (off : ℕ) → (answered w s (Free off) .number ≡ 0) ↔ ((e : Block) × liveIn w s e × (offset e ≡ off))
     unfolding Effect FreeEffect
     free-granted off = (there, back)
@@ -241,8 +244,7 @@ module _ (w : ℕ) (wide : 2 ≤ w) (narrow : w ≤ 255) (s : List ℕ) (B : Byt
                 (sym (refusal-number (Free off) k e) ∙ z))
 
         back : (e : Block) × liveIn w s e × (offset e ≡ off) → answered w s (Free off) .number ≡ 0
-        back (e, l, o) =
-            rw (← o) (ap (λ (x : Outcome). x .number) (sound-answer (Free (offset e))) ∙ ap (λ (a : Answer). outcome a .number) (claims .live-freed m W e l))
+        back (e, l, o) = rw (← o) (ap (λ (x : Outcome). x .number) (free-tells e l))
 
     -- ---- refused for room
     four-is : (n : ℕ) → (answered w s (Alloc n) .number ≡ 4) ↔ (step m (Alloc n) .answer ≡ no noRoom)
@@ -401,6 +403,7 @@ module _ (w : ℕ) (wide : 2 ≤ w) (narrow : w ≤ 255) (s : List ℕ) (B : Byt
     refused-free = λ off z. either (λ e. refused-free e off z) (λ d. unsound-after d (Free off));
     free-granted = λ off e. free-granted e off;
     free-number = λ off e. number-is e (Free off);
+    free-tells = λ b e. free-tells e b;
   }
 
   pub demand2 : (sound : brokenRule w s ≡ 0) → Demand2 w s sound

@@ -122,6 +122,7 @@ module _ (w : ℕ) (wide : 2 ≤ w) (narrow : w ≤ 255) (P : ℕ) where
           ruled = λ call.
               ap (λ (o : Outcome). o .number) (sound-answer w wide narrow u (K .bytes) (K .sound) call) ∙ verdict-number (step m call .answer)
               ∙ ap numberIn (x .ruled call ∙ ap (λ (n : ℕ). ruling (expected n L) call) sized);
+          tells = λ e x. demand1 w wide narrow u (K .bytes) .free-tells e (K .sound) (K .live .live e x);
         }
 
   turns : (ts : List Turn) (s : List ℕ) (L : List Block) → Kept s L → Allowed w s ts → (u : List ℕ) → Rewritten w (played w s ts) u →

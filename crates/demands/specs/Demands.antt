@@ -50,6 +50,8 @@ pub record Demand1 (w : ℕ) (s : List ℕ) : Type 0 where
   -- a free is granted exactly where a live block begins, and else refused by the table's number
   pub free-granted : (off : ℕ) → brokenRule w s ≡ 0 → (answered w s (Free off) .number ≡ 0) ↔ ((e : Block) × liveIn w s e × (offset e ≡ off))
   pub free-number : (off : ℕ) → brokenRule w s ≡ 0 → answered w s (Free off) .number ≡ numberIn (ruling (shownBy w s) (Free off))
+  -- granted, it tells the block's bytes
+  pub free-tells : (e : Block) → brokenRule w s ≡ 0 → liveIn w s e → answered w s (Free (offset e)) ≡ granted (extent e)
 
 -- ---- demand 2: on sound records
 
@@ -125,6 +127,8 @@ pub record Faithful (w P : ℕ) (B : List Block) (s : List ℕ) : Type 0 where
   -- the next call
   pub apart : (call : Call) → Apart B call (answered w s call)
   pub ruled : (call : Call) → answered w s call .number ≡ numberIn (ruling (expected P B) call)
+  -- a free of a live block tells its bytes
+  pub tells : (e : Block) → Mem e B → answered w s (Free (offset e)) ≡ granted (extent e)
 
 -- after any list of turns from what format leaves of any slice that it accepts
 abbrev pub Demand3 : (w : ℕ) (s : List ℕ) → Type 0

@@ -26,7 +26,7 @@ found-classed w s P off =
     either (leb P (off / 4096)) _ _ (λ _. tt)
     (either (leb (l .kind) 1) _ _ (λ _. tt)
     (either (eqb (l .kind) 2) _ _ (λ _. either (leb (l .class) 8) _ _ (λ c.
-        either (eqb (off % 4096 % chunk (l .class)) 0) _ _ (λ _.
-        either (ltb (off % 4096 / chunk (l .class) % 65536) (own (l .class))) _ _ (λ _. tt)
-        (either (marked w s P (l .class) p (off % 4096 / chunk (l .class) % 65536)) _ _ (λ _. leb-true _ _ c) tt)) tt) tt)
+    either (eqb (off % 4096 % chunk (l .class)) 0) _ _ (λ _.
+    either (ltb (off % 4096 / chunk (l .class) % 65536) (own (l .class))) _ _ (λ _. tt)
+    (either (marked w s P (l .class) p (off % 4096 / chunk (l .class) % 65536)) _ _ (λ _. leb-true _ _ c) tt)) tt) tt)
     (either (eqb (l .kind) 3) _ _ (λ _. either (eqb (off % 4096) 0) _ _ (λ _. tt) tt) tt)))

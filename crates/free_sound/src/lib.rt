@@ -15,7 +15,7 @@ ghost use Rattle.chunks.specs.Mirror.{chunkFreed};
 ghost use Rattle.run_neighbours.specs.Mirror.{pagesReleased};
 ghost use Rattle.free_sound.specs.Mirror.{Classed, foundOutcome, foundSlice, freeOutcome, freeSlice};
 
-// Gives back the block that begins at the offset (SPEC 4.7).
+// Gives back the block that begins at the offset (SPEC 4.7): its bytes, or the refusal.
 pub fn free_sound(pool: &mut [u8], w: u8, pages: u16, at: Offset) -> Freed
     ensures answer { λ r. ⌜ ofFree r ≡ freeOutcome w (now (pool .entry)) pages (at .0) ⌝ }
     ensures slice { λ _. ⌜ now (pool .exit) ≡ freeSlice w (now (pool .entry)) pages (at .0) ⌝ }

@@ -34,7 +34,7 @@ pub fn alloc(pool: &mut [u8], size: u32) -> Allocated
     calls::alloc(pool, 2, size)
 }
 
-// Gives back the block that starts at the offset.
+// Gives back the block that starts at the offset: the bytes released, or the refusal.
 pub fn free(pool: &mut [u8], at: Offset) -> Freed
     ensures answer { λ r. ⌜ ofFree r ≡ answered 2 (now (pool .entry)) (Free (at .0)) ⌝ }
     ensures slice { λ _. ⌜ now (pool .exit) ≡ after 2 (now (pool .entry)) (Free (at .0)) ⌝ }

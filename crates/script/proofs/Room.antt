@@ -18,7 +18,7 @@ use Rattle.script_lines.specs.Lines.{before, lines, begins, request}
 use Rattle.script_lines.proofs.Words.{begins-long}
 use Rattle.printing.specs.Text.{digits, places, decimal, phrase, line}
 use Rattle.printing.proofs.Digits.{decimal-few}
-use Rattle.script_replies.specs.Replies.{poolWord, atWord, noWord, backLine, refusalLine, outcomeLine, formatLine, allocLine, freeLine, replyLine}
+use Rattle.script_replies.specs.Replies.{poolWord, atWord, backWord, noWord, refusalLine, outcomeLine, formatLine, allocLine, freeLine, replyLine}
 use Rattle.script_summary.specs.Summary.{freeWord, runsWord, summaryLine}
 use Rattle.rules.specs.Rules.{freeIn}
 use Rattle.script.specs.Script.{reply, replies, next, final, joined, summary, exchange}
@@ -34,22 +34,23 @@ line-few word v = omega (arith, length-append (phrase word v) (10 ∷ []), phras
 
 -- ---- a line's answer against the line
 
-outcome-few : (k : ℕ) (g : List ℕ) (o : Outcome) → 14 ≤ k → length g ≤ k → length (outcomeLine g o) ≤ k
+-- no word is longer than `pool ` and `back `
+outcome-few : (word : List ℕ) (o : Outcome) → length word ≤ 5 → length (outcomeLine word o) ≤ 16
 unfolding outcomeLine pick
-outcome-few k g o l h = go (eqb (o .number) 0)
+outcome-few word o h = go (eqb (o .number) 0)
   where
-    go : (b : Bool) → length (pick b g (line noWord (o .number))) ≤ k
-    go true = h
-    go false = omega (arith, l, line-few noWord (o .number))
+    go : (b : Bool) → length (pick b (line word (o .value)) (line noWord (o .number))) ≤ 16
+    go true = omega (arith, h, line-few word (o .value))
+    go false = omega (arith, line-few noWord (o .number))
 
 pub format-few : (o : Outcome) → length (formatLine o) ≤ 16
 unfolding formatLine
-format-few o = outcome-few 16 (line poolWord (o .value)) o (omega arith) (line-few poolWord (o .value))
+format-few o = outcome-few poolWord o (omega arith)
 
-reply-few : (call : Call) (o : Outcome) → length (replyLine call o) ≤ 14
+reply-few : (call : Call) (o : Outcome) → length (replyLine call o) ≤ 16
 unfolding replyLine allocLine freeLine
-reply-few (Alloc n) o = outcome-few 14 (line atWord (o .value)) o (omega arith) (line-few atWord (o .value))
-reply-few (Free off) o = outcome-few 14 backLine o (omega arith) (omega arith)
+reply-few (Alloc n) o = outcome-few atWord o (omega arith)
+reply-few (Free off) o = outcome-few backWord o (omega arith)
 
 unreadable-few : length (refusalLine Unreadable) ≡ 5
 unfolding refusalLine line phrase decimal digits places pick
@@ -69,7 +70,7 @@ asked-long l call e = go (begins l 116 97 107 101) refl (begins l 103 105 118 10
         absurd (omega arith)
 
 -- an answer is at most five times as long as the line with its newline
-answer-few : (l : List ℕ) (f : Option Call → List ℕ) → f none ≡ refusalLine Unreadable → ((call : Call) → length (f (some call)) ≤ 14) →
+answer-few : (l : List ℕ) (f : Option Call → List ℕ) → f none ≡ refusalLine Unreadable → ((call : Call) → length (f (some call)) ≤ 16) →
     length (f (request l)) ≤ 5 * (length l + 1)
 answer-few l f h g = go (request l) refl
   where

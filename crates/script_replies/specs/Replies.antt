@@ -8,35 +8,34 @@ use Rattle.answers.specs.declared.Refusal.{Refusal}
 use Rattle.model.specs.Calls.{Call, Alloc, Free}
 use Rattle.printing.specs.Text.{line}
 
--- `pool `, `at `, `no `
+-- `pool `, `at `, `back `, `no `
 abbrev pub poolWord : List ℕ
 poolWord = 112 ∷ 111 ∷ 111 ∷ 108 ∷ 32 ∷ []
 
 abbrev pub atWord : List ℕ
 atWord = 97 ∷ 116 ∷ 32 ∷ []
 
+abbrev pub backWord : List ℕ
+backWord = 98 ∷ 97 ∷ 99 ∷ 107 ∷ 32 ∷ []
+
 abbrev pub noWord : List ℕ
 noWord = 110 ∷ 111 ∷ 32 ∷ []
-
--- `back` and a newline
-abbrev pub backLine : List ℕ
-backLine = 98 ∷ 97 ∷ 99 ∷ 107 ∷ 10 ∷ []
 
 unfoldable pub refusalLine : Refusal → List ℕ
 refusalLine r = line noWord (numberOf r)
 
--- a call's outcome, where granted says what a grant prints
-unfoldable pub outcomeLine : (granted : List ℕ) (o : Outcome) → List ℕ
-outcomeLine granted o = pick (eqb (o .number) 0) granted (line noWord (o .number))
+-- a call's outcome: where it is granted, the word and the value
+unfoldable pub outcomeLine : (word : List ℕ) (o : Outcome) → List ℕ
+outcomeLine word o = pick (eqb (o .number) 0) (line word (o .value)) (line noWord (o .number))
 
 unfoldable pub formatLine : Outcome → List ℕ
-formatLine o = outcomeLine (line poolWord (o .value)) o
+formatLine o = outcomeLine poolWord o
 
 unfoldable pub allocLine : Outcome → List ℕ
-allocLine o = outcomeLine (line atWord (o .value)) o
+allocLine o = outcomeLine atWord o
 
 unfoldable pub freeLine : Outcome → List ℕ
-freeLine o = outcomeLine backLine o
+freeLine o = outcomeLine backWord o
 
 unfoldable pub replyLine : Call → Outcome → List ℕ
 replyLine (Alloc n) o = allocLine o

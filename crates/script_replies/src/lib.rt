@@ -4,7 +4,6 @@ use answers::Formatted;
 use answers::Freed;
 use answers::Refusal;
 use printing::put_line;
-use printing::put_text;
 ghost use Prim.Native.Nat.{_≤_};
 ghost use Rattle.answers.specs.Outcome.{ofFormat, ofAlloc, ofFree};
 ghost use Rattle.printing.specs.Text.{Prints};
@@ -45,7 +44,7 @@ pub fn put_freed(out: &mut [u8], n: usize, f: Freed) -> usize
     ensures { λ m. ⌜ Prints (now (out .entry)) (now (out .exit)) n m (freeLine (ofFree f)) ⌝ }
 {
     match f {
-        Freed::Done => put_text(out, n, b"back\n"),
+        Freed::Bytes(bytes) => put_line(out, n, b"back ", bytes),
         Freed::Refused(r) => put_refusal(out, n, r),
     }
 }

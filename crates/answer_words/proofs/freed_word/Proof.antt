@@ -3,11 +3,14 @@ use borrow.Author.Needs.{needs}
 use Rattle.answer_words.proofs.freed_word.Statement.{statement}
 use Rattle.answer_words.proofs.freed_word.Tie as tie
 
-enum-told : tie.Need-enum-told
-enum-told c = search needs
-
 enum-known-f : tie.Need-enum-known-f
 enum-known-f c = search needs
+
+cast-result : tie.Need-cast-result
+cast-result c = search needs
+
+enum-known-f-2 : tie.Need-enum-known-f-2
+enum-known-f-2 c = search needs
 
 number-requires : tie.Need-number-requires
 number-requires c κs = search needs
@@ -16,12 +19,19 @@ refusal-word-requires : tie.Need-refusal-word-requires
 refusal-word-requires c κs = search needs
 
 returns : tie.Need-returns
-returns c = rw (c .enum-told .given .1) (omega arith)
+returns c = rw (c .before .f .given .1) (omega arith)
 
 returns-2 : tie.Need-returns-2
-returns-2 c = rw (c .before .before .before .f .given .1) (omega arith)
+returns-2 c = rw (c .before .before .before .f2 .given .1) (omega arith)
 
 pub freed-word-spec : {M : Type 1} → statement M
 freed-word-spec =
     tie.close
-    (tie.spec enum-told enum-known-f number-requires refusal-word-requires returns returns-2)
+    (tie.spec
+    enum-known-f
+    cast-result
+    enum-known-f-2
+    number-requires
+    refusal-word-requires
+    returns
+    returns-2)

@@ -1,7 +1,8 @@
 use borrow.Author.Needs.{needs}
 use mathlib.Core.Path.{ap}
 use Rattle.answers.specs.Outcome.{ofAlloc}
-use Rattle.script_replies.proofs.Spoken.{granted-alloc, refused-alloc}
+use Rattle.script_replies.specs.Replies.{atWord, allocLine}
+use Rattle.script_replies.proofs.Spoken.{prints-granted, prints-refused}
 use Rattle.script_replies.proofs.put_allocated.Statement.{statement}
 use Rattle.script_replies.proofs.put_allocated.Tie as tie
 
@@ -24,13 +25,15 @@ same-length : tie.Need-same-length
 same-length c = search needs
 
 returns : tie.Need-returns
-returns c = granted-alloc _ _ _ _ _ _ (ap ofAlloc (c .before .before .before .before .before .before .a .given .1)) (c .before .before .put-line .ensures)
+unfolding allocLine
+returns c = prints-granted _ _ _ _ atWord _ _ (ap ofAlloc (c .before .before .before .before .before .before .a .given .1)) (c .before .before .put-line .ensures)
 
 same-length-2 : tie.Need-same-length-2
 same-length-2 c = search needs
 
 returns-2 : tie.Need-returns-2
-returns-2 c = refused-alloc _ _ _ _ _ _ (ap ofAlloc (c .before .before .before .before .before .a2 .given .1)) (c .before .before .put-refusal .ensures)
+unfolding allocLine
+returns-2 c = prints-refused _ _ _ _ atWord _ _ (ap ofAlloc (c .before .before .before .before .before .a2 .given .1)) (c .before .before .put-refusal .ensures)
 
 pub put-allocated-spec : {M : Type 1} → statement M
 put-allocated-spec =

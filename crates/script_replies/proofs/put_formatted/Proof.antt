@@ -1,7 +1,8 @@
 use borrow.Author.Needs.{needs}
 use mathlib.Core.Path.{ap}
 use Rattle.answers.specs.Outcome.{ofFormat}
-use Rattle.script_replies.proofs.Spoken.{granted-format, refused-format}
+use Rattle.script_replies.specs.Replies.{poolWord, formatLine}
+use Rattle.script_replies.proofs.Spoken.{prints-granted, prints-refused}
 use Rattle.script_replies.proofs.put_formatted.Statement.{statement}
 use Rattle.script_replies.proofs.put_formatted.Tie as tie
 
@@ -27,13 +28,15 @@ same-length : tie.Need-same-length
 same-length c = search needs
 
 returns : tie.Need-returns
-returns c = granted-format _ _ _ _ _ _ (ap ofFormat (c .before .before .before .before .before .before .f .given .1)) (c .before .before .put-line .ensures)
+unfolding formatLine
+returns c = prints-granted _ _ _ _ poolWord _ _ (ap ofFormat (c .before .before .before .before .before .before .f .given .1)) (c .before .before .put-line .ensures)
 
 same-length-2 : tie.Need-same-length-2
 same-length-2 c = search needs
 
 returns-2 : tie.Need-returns-2
-returns-2 c = refused-format _ _ _ _ _ _ (ap ofFormat (c .before .before .before .before .before .f2 .given .1)) (c .before .before .put-refusal .ensures)
+unfolding formatLine
+returns-2 c = prints-refused _ _ _ _ poolWord _ _ (ap ofFormat (c .before .before .before .before .before .f2 .given .1)) (c .before .before .put-refusal .ensures)
 
 pub put-formatted-spec : {M : Type 1} → statement M
 put-formatted-spec =
