@@ -37,9 +37,10 @@ static uint32_t keep(const char *what, const char *text, uint32_t size)
 
 static void release(const char *what, uint32_t offset)
 {
-    enum dnk_refusal refusal = dnk_refusal_of(dnk_free(pool, sizeof pool, offset));
+    dnk_answer answer = dnk_free(pool, sizeof pool, offset);
+    enum dnk_refusal refusal = dnk_refusal_of(answer);
     if (refusal == DNK_GRANTED) {
-        printf("%s: freed\n", what);
+        printf("%s: %" PRIu32 " bytes back\n", what, dnk_value_of(answer));
     } else {
         printf("%s: %s (%d)\n", what, dnk_refusal_name(refusal), refusal);
     }

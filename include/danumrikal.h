@@ -101,8 +101,8 @@ uint64_t dnk_validate(const uint8_t *pool, size_t len);
 dnk_answer dnk_alloc(uint8_t *pool, size_t len, uint32_t size);
 
 /*
- * Gives back the block that begins at offset; the value is 0. Refused by the
- * first of:
+ * Gives back the block that begins at offset. The value is the bytes released:
+ * the chunk's size, or DNK_PAGE for each page of a run. Refused by the first of:
  *   DNK_NOT_SOUND    the records break a rule
  *   DNK_OUTSIDE      the offset lies past the pages
  *   DNK_NOT_TAKEN    the page is free

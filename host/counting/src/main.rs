@@ -25,7 +25,7 @@ fn count_packed_alloc(pool: &mut [u8], size: u32) -> Result<u32, Refusal> {
 }
 
 #[inline(never)]
-fn count_packed_free(pool: &mut [u8], offset: u32) -> Result<(), Refusal> {
+fn count_packed_free(pool: &mut [u8], offset: u32) -> Result<u32, Refusal> {
     packed::free_sound(pool, offset)
 }
 
@@ -35,7 +35,7 @@ fn count_native_alloc(pool: &mut native::Pool, size: u32) -> Result<u32, Refusal
 }
 
 #[inline(never)]
-fn count_native_free(pool: &mut native::Pool, offset: u32) -> Result<(), Refusal> {
+fn count_native_free(pool: &mut native::Pool, offset: u32) -> Result<u32, Refusal> {
     pool.free(offset)
 }
 
@@ -46,7 +46,7 @@ fn serve_packed<E>(
     list: &[u64],
     validate: fn(&[u8]) -> u8,
     alloc: fn(&mut [u8], u32) -> Result<u32, E>,
-    free: fn(&mut [u8], u32) -> Result<(), E>,
+    free: fn(&mut [u8], u32) -> Result<u32, E>,
     number: fn(E) -> u8,
 ) -> u64 {
     let mut pool = vec![0; support::length(usize::from(pages))];

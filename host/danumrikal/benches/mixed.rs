@@ -13,7 +13,7 @@ fn on_bytes<'a, E>(
     list: &'a [u64],
     pages: u16,
     alloc: impl Fn(&mut [u8], u32) -> Result<u32, E> + 'a,
-    free: impl Fn(&mut [u8], u32) -> Result<(), E> + 'a,
+    free: impl Fn(&mut [u8], u32) -> Result<u32, E> + 'a,
     number: impl Fn(E) -> u8 + 'a,
 ) -> impl FnMut() -> u64 + 'a {
     let mut pool = vec![0; length(usize::from(pages))];

@@ -19,7 +19,7 @@ fn keep(pool: &mut Pool, what: &str, text: &str, size: u32) -> Result<Offset, Re
 
 fn release(pool: &mut Pool, what: &str, offset: Offset) {
     match pool.free(offset) {
-        Ok(()) => println!("{what}: freed"),
+        Ok(bytes) => println!("{what}: {bytes} bytes back"),
         Err(refusal) => println!("{what}: {refusal}"),
     }
 }

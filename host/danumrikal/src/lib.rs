@@ -15,7 +15,7 @@
 //! let stars = pool.alloc(30)?;
 //! let text = pool.block_mut(stars, 30).expect("inside the pages");
 //! text.copy_from_slice(b"Vega, Altair, Deneb, Arcturus.");
-//! pool.free(stars)?;
+//! assert_eq!(pool.free(stars), Ok(32)); // the bytes of its chunk
 //! assert_eq!(pool.free(stars), Err(Refusal::NotTaken));
 //! assert_eq!(pool.check(), Ok(()));
 //! # Ok::<(), Refusal>(())

@@ -173,7 +173,8 @@ impl<'a> Pool<'a> {
         answer(ffi::alloc(self.bytes, size)).map(Offset)
     }
 
-    /// Gives back the block that begins at `offset`.
+    /// Gives back the block that begins at `offset`, and answers the bytes
+    /// released: its chunk's size, or [`PAGE`] for each page of a run.
     ///
     /// # Errors
     ///
@@ -197,13 +198,13 @@ impl<'a> Pool<'a> {
     /// pool.format()?;
     /// let block = pool.alloc(64)?;
     /// assert_eq!(pool.free(Offset(block.0 + 1)), Err(Refusal::NotAStart));
-    /// assert_eq!(pool.free(block), Ok(()));
+    /// assert_eq!(pool.free(block), Ok(64));
     /// assert_eq!(pool.free(block), Err(Refusal::NotTaken));
     /// assert_eq!(pool.free(Offset(PAGE as u32)), Err(Refusal::Outside));
     /// # Ok::<(), Refusal>(())
     /// ```
-    pub fn free(&mut self, offset: Offset) -> Result<(), Refusal> {
-        answer(ffi::free(self.bytes, offset.0)).map(|_| ())
+    pub fn free(&mut self, offset: Offset) -> Result<u32, Refusal> {
+        answer(ffi::free(self.bytes, offset.0))
     }
 
     /// The bytes of a block, for an offset and a size that [`Pool::alloc`]

@@ -38,7 +38,7 @@ fn the_whole_case() {
     assert_eq!(pool.alloc(30), Ok(Offset(32)));
     assert_eq!(pool.alloc(64), Ok(Offset(4_096)));
     assert_eq!(pool.alloc(5_000), Ok(Offset(8_192)));
-    assert_eq!(pool.free(Offset(32)), Ok(()));
+    assert_eq!(pool.free(Offset(32)), Ok(32));
     assert_eq!(pool.free(Offset(32)), Err(Refusal::NotTaken));
     assert_eq!(pool.alloc(0), Ok(Offset(64)));
     assert_eq!(pool.check(), Ok(()));

@@ -62,7 +62,8 @@ int main(void)
     EXPECT(dnk_refusal_of(answer) == DNK_NO_ROOM && dnk_value_of(answer) == 0);
     EXPECT(dnk_free(pool, len, DNK_PAGE) == refused(DNK_OUTSIDE));
     EXPECT(dnk_free(pool, len, 1) == refused(DNK_NOT_A_START));
-    EXPECT(dnk_free(pool, len, 0) == 0);
+    answer = dnk_free(pool, len, 0);
+    EXPECT(dnk_refusal_of(answer) == DNK_GRANTED && dnk_value_of(answer) == 2048);
     EXPECT(dnk_free(pool, len, 0) == refused(DNK_NOT_TAKEN));
 
     pool[0] = 2; /* the edition */

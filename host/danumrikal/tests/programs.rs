@@ -74,7 +74,10 @@ fn the_readme_in_c() {
     let (example, _) = after.split_once("```\n").expect("its end");
     let source = scratch("readme.c");
     fs::write(&source, example).expect("a file is written");
-    assert_eq!(build_and_run(&C, &source, "readme"), "not taken (6)\n");
+    assert_eq!(
+        build_and_run(&C, &source, "readme"),
+        "32 back, then not taken (6)\n"
+    );
 }
 
 #[test]

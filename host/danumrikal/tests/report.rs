@@ -69,7 +69,7 @@ fn sample() -> Vec<u8> {
     // a pool that is all one block has no room for a chunk
     assert_eq!(pool.alloc(49_152), at(0));
     assert_eq!(pool.alloc(16), Err(Refusal::NoRoom));
-    assert_eq!(pool.free(Offset(0)), Ok(()));
+    assert_eq!(pool.free(Offset(0)), Ok(49_152));
     assert_eq!(pool.alloc(30), at(32));
     assert_eq!(pool.alloc(30), at(64));
     assert_eq!(pool.alloc(8), at(4_160));
@@ -80,8 +80,8 @@ fn sample() -> Vec<u8> {
     assert_eq!(pool.alloc(4_096), at(24_576));
     assert_eq!(pool.alloc(4_096), at(28_672));
     // the free runs are now pages 7 to 11 and page 5, in this order
-    assert_eq!(pool.free(Offset(20_480)), Ok(()));
-    assert_eq!(pool.free(Offset(28_672)), Ok(()));
+    assert_eq!(pool.free(Offset(20_480)), Ok(64));
+    assert_eq!(pool.free(Offset(28_672)), Ok(4_096));
     bytes
 }
 

@@ -47,7 +47,7 @@ fn around(lines: &str) -> String {
 fn the_whole_case() {
     prints(
         "take 30\ntake 64\ntake 5000\ngive 32\ngive 32\ntake 0\n",
-        "pool 12\nat 32\nat 4096\nat 8192\nback\nno 6\nat 64\nfree 8 runs 1\n",
+        "pool 12\nat 32\nat 4096\nat 8192\nback 32\nno 6\nat 64\nfree 8 runs 1\n",
     );
 }
 
@@ -113,7 +113,7 @@ fn whatever_is_not_of_the_form_is_unreadable() {
 fn a_refused_line_leaves_the_next_to_be_served() {
     prints(
         "take 4096\nhallo\ngive 1\ngive 4096\ngive 49152\ngive 0\ngive 0\n",
-        "pool 12\nat 0\nno 8\nno 7\nno 6\nno 5\nback\nno 6\nfree 12 runs 1\n",
+        "pool 12\nat 0\nno 8\nno 7\nno 6\nno 5\nback 4096\nno 6\nfree 12 runs 1\n",
     );
 }
 

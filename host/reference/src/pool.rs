@@ -6,8 +6,8 @@
 use crate::class::{need, Class, Need};
 use crate::layout::{
     bitmap_at, bitmap_word_at, page_count, set_next, set_previous, set_word, word, ClassRecord,
-    Header, Offset, PageNo, PageRecord, CLASS_PAGE, FREE_FIRST, FREE_INSIDE, TAKEN_FIRST,
-    TAKEN_INSIDE,
+    Header, Offset, PageNo, PageRecord, CLASS_PAGE, FREE_FIRST, FREE_INSIDE, PAGE_SIZE,
+    TAKEN_FIRST, TAKEN_INSIDE,
 };
 use crate::refusal::Refusal;
 use crate::validate::validate;
@@ -54,8 +54,9 @@ pub fn alloc_sound(bytes: &mut [u8], size: u32) -> Result<u32, Refusal> {
     Ok(offset.0)
 }
 
-/// Gives back the block that begins at `offset`.
-pub fn free(bytes: &mut [u8], offset: u32) -> Result<(), Refusal> {
+/// Gives back the block that begins at `offset`, and answers the bytes
+/// released.
+pub fn free(bytes: &mut [u8], offset: u32) -> Result<u32, Refusal> {
     if !validate(bytes) {
         return Err(Refusal::NotSound);
     }
@@ -66,7 +67,7 @@ pub fn free(bytes: &mut [u8], offset: u32) -> Result<(), Refusal> {
 ///
 /// On any other bytes the answer and what becomes of them are unspecified, but
 /// the call still ends without a panic.
-pub fn free_sound(bytes: &mut [u8], offset: u32) -> Result<(), Refusal> {
+pub fn free_sound(bytes: &mut [u8], offset: u32) -> Result<u32, Refusal> {
     let mut pool = Pool::open(bytes)?;
     let offset = Offset(offset);
     let page = offset.page();
@@ -79,7 +80,7 @@ pub fn free_sound(bytes: &mut [u8], offset: u32) -> Result<(), Refusal> {
         CLASS_PAGE => pool.free_chunk(page, record.class, offset.within()),
         TAKEN_FIRST if offset.within() == 0 => {
             pool.release(page, record.run);
-            Ok(())
+            Ok(record.run * PAGE_SIZE)
         }
         _ => Err(Refusal::NotAStart),
     }
@@ -213,7 +214,7 @@ impl Pool<'_> {
         None
     }
 
-    fn free_chunk(&mut self, page: PageNo, class: u32, within: u32) -> Result<(), Refusal> {
+    fn free_chunk(&mut self, page: PageNo, class: u32, within: u32) -> Result<u32, Refusal> {
         let class = Class::new(class).ok_or(Refusal::NotSound)?;
         let chunk = within >> class.shift();
         if within != chunk << class.shift() || chunk < class.own_chunks() {
@@ -241,7 +242,7 @@ impl Pool<'_> {
         if unused {
             self.release(page, 1);
         }
-        Ok(())
+        Ok(class.chunk_size())
     }
 
     /// Frees `length` pages: joins them with the free run right after and the

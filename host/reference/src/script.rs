@@ -33,7 +33,9 @@ fn serve(input: &[u8]) -> Result<String, Refusal> {
             Some(Call::Alloc(size)) => {
                 alloc(&mut pool, size).map(|offset| format!("at {offset}\n"))
             }
-            Some(Call::Free(offset)) => free(&mut pool, offset).map(|()| "back\n".to_owned()),
+            Some(Call::Free(offset)) => {
+                free(&mut pool, offset).map(|bytes| format!("back {bytes}\n"))
+            }
             None => Err(Refusal::Unreadable),
         };
         printout += &answer.unwrap_or_else(refused);

@@ -92,6 +92,8 @@ pub enum Contradiction {
     Overlap(u32),
     /// A free was granted where no live block begins.
     NotLive,
+    /// A granted free told so many bytes, and the block has others.
+    Bytes(u32),
 }
 
 impl fmt::Display for Contradiction {
@@ -102,6 +104,9 @@ impl fmt::Display for Contradiction {
                 write!(f, "granted block overlaps the live block at {offset}")
             }
             Contradiction::NotLive => f.write_str("free granted where no live block begins"),
+            Contradiction::Bytes(bytes) => {
+                write!(f, "the freed block has not {bytes} bytes")
+            }
         }
     }
 }
@@ -157,15 +162,20 @@ impl LiveSet {
         Ok(())
     }
 
-    /// Notes the answer to `Free(offset)`.
+    /// Notes the answer to `Free(offset)`. A contradiction is not entered.
     pub fn record_free(
         &mut self,
         offset: u32,
-        answer: Result<(), Refusal>,
+        answer: Result<u32, Refusal>,
     ) -> Result<(), Contradiction> {
-        if answer.is_ok() && self.blocks.remove(&offset).is_none() {
-            return Err(Contradiction::NotLive);
+        let Ok(bytes) = answer else {
+            return Ok(());
+        };
+        let block = self.blocks.get(&offset).ok_or(Contradiction::NotLive)?;
+        if block.bytes() != u64::from(bytes) {
+            return Err(Contradiction::Bytes(bytes));
         }
+        self.blocks.remove(&offset);
         Ok(())
     }
 

@@ -208,10 +208,10 @@ fn frees_in_a_page_of_class_8() {
     assert_eq!(alloc(&mut bytes, 8), Ok(72));
     free_refused(&mut bytes, 0, Refusal::NotAStart);
     free_refused(&mut bytes, 65, Refusal::NotAStart);
-    assert_eq!(free(&mut bytes, 64), Ok(()));
+    assert_eq!(free(&mut bytes, 64), Ok(8));
     free_refused(&mut bytes, 64, Refusal::NotTaken);
     // The page goes with its last chunk, and is then free at any offset.
-    assert_eq!(free(&mut bytes, 72), Ok(()));
+    assert_eq!(free(&mut bytes, 72), Ok(8));
     for offset in [0, 64, 65, 72, 4_095] {
         free_refused(&mut bytes, offset, Refusal::NotTaken);
     }
@@ -223,8 +223,8 @@ fn a_freed_page_goes_to_the_head() {
     for offset in [0, 4_096, 8_192] {
         assert_eq!(alloc(&mut bytes, 4_096), Ok(offset));
     }
-    assert_eq!(free(&mut bytes, 0), Ok(()));
-    assert_eq!(free(&mut bytes, 8_192), Ok(()));
+    assert_eq!(free(&mut bytes, 0), Ok(4_096));
+    assert_eq!(free(&mut bytes, 8_192), Ok(4_096));
     assert_eq!(run_list(&bytes), [(2, 10), (0, 1)]);
     assert_eq!(alloc(&mut bytes, 4_096), Ok(8_192));
 }
@@ -236,7 +236,7 @@ fn a_run_is_freed_at_its_start_alone() {
     for offset in [1, 8, 4_095, 4_096, 4_097, 8_191] {
         free_refused(&mut bytes, offset, Refusal::NotAStart);
     }
-    assert_eq!(free(&mut bytes, 0), Ok(()));
+    assert_eq!(free(&mut bytes, 0), Ok(8_192));
     free_refused(&mut bytes, 0, Refusal::NotTaken);
     assert!(bytes == pool(12));
 }
@@ -288,13 +288,13 @@ fn boundary_and_own_chunks_come_before_the_mark() {
         free_refused(&mut bytes, offset + size + 1, Refusal::NotAStart);
         free_refused(&mut bytes, 4_096 - size, Refusal::NotTaken);
         free_refused(&mut bytes, 4_095, Refusal::NotAStart);
-        assert_eq!(free(&mut bytes, offset), Ok(()));
+        assert_eq!(free(&mut bytes, offset), Ok(size));
     }
     let mut bytes = pool(1);
     assert_eq!(alloc(&mut bytes, 64), Ok(0));
     free_refused(&mut bytes, 32, Refusal::NotAStart);
     free_refused(&mut bytes, 64, Refusal::NotTaken);
-    assert_eq!(free(&mut bytes, 0), Ok(()));
+    assert_eq!(free(&mut bytes, 0), Ok(64));
 }
 
 #[test]
@@ -427,7 +427,7 @@ fn inside_pages_only_marks_change() {
 #[test]
 fn the_whole_case() {
     let input = "take 30\ntake 64\ntake 5000\ngive 32\ngive 32\ntake 0\n";
-    let printout = "pool 12\nat 32\nat 4096\nat 8192\nback\nno 6\nat 64\nfree 8 runs 1\n";
+    let printout = "pool 12\nat 32\nat 4096\nat 8192\nback 32\nno 6\nat 64\nfree 8 runs 1\n";
     assert_eq!(script(input), printout);
     // A last line may lack its newline.
     assert_eq!(script(input.trim_end()), printout);
@@ -487,7 +487,7 @@ fn script_numbers() {
     let printout = "pool 12\nno 4\nno 5\nno 6\nat 64\nfree 11 runs 1\n";
     assert_eq!(script(input), printout);
     let input = "take 4096\ntake 4096\ntake 4096\ngive 0\ngive 8192\ngive 4097\n";
-    let printout = "pool 12\nat 0\nat 4096\nat 8192\nback\nback\nno 7\nfree 11 runs 2\n";
+    let printout = "pool 12\nat 0\nat 4096\nat 8192\nback 4096\nback 4096\nno 7\nfree 11 runs 2\n";
     assert_eq!(script(input), printout);
     let printout = "pool 12\nat 0\nno 4\nfree 0 runs 0\n";
     assert_eq!(script("take 49152\ntake 1"), printout);

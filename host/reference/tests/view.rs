@@ -35,8 +35,10 @@ fn blocks_enter_and_leave() {
     assert_eq!(live.record_alloc(8, Err(Refusal::NoRoom)), Ok(()));
     assert_eq!(live.record_free(32, Err(Refusal::NotTaken)), Ok(()));
     assert_eq!(live, before);
-    assert_eq!(live.record_free(32, Ok(())), Ok(()));
+    assert_eq!(live.record_free(32, Ok(32)), Ok(()));
     assert!(live.blocks().keys().eq(&[4_096, 8_192]));
+    assert_eq!(live.record_free(8_192, Ok(8_192)), Ok(()));
+    assert!(live.blocks().keys().eq(&[4_096]));
 }
 
 #[test]
@@ -67,8 +69,12 @@ fn contradictions() {
         assert_eq!(entered, Err(Contradiction::Outside));
     }
     for offset in [0, 65, 72, 8_192, u32::MAX] {
-        let entered = live.record_free(offset, Ok(()));
+        let entered = live.record_free(offset, Ok(8));
         assert_eq!(entered, Err(Contradiction::NotLive));
+    }
+    for (offset, bytes) in [(64, 0), (64, 16), (4_096, 2), (4_096, 5_000)] {
+        let entered = live.record_free(offset, Ok(bytes));
+        assert_eq!(entered, Err(Contradiction::Bytes(bytes)));
     }
     assert_eq!(live, before);
     assert_eq!(live.record_alloc(8, Ok(72)), Ok(()));
@@ -156,7 +162,10 @@ fn every_next_call() {
         let mut copy = pool.clone();
         for number in (0..=pages * 4_096 + 1).chain([u32::MAX]) {
             let ruling = live.ruling(Call::Free(number));
-            assert_eq!(free_sound(&mut copy, number), ruling, "free {number}");
+            let answer = free_sound(&mut copy, number);
+            let bytes = live.blocks().get(&number).map(|block| block.bytes());
+            assert_eq!(answer.ok().map(u64::from), bytes, "free {number}");
+            assert_eq!(answer.map(|_| ()), ruling, "free {number}");
             if ruling.is_ok() {
                 copy.copy_from_slice(&pool);
             }

@@ -12,7 +12,7 @@ pub fn requests<P: ?Sized, E: Debug>(
     count: usize,
     pool: &mut P,
     alloc: impl Fn(&mut P, u32) -> Result<u32, E>,
-    free: impl Fn(&mut P, u32) -> Result<(), E>,
+    free: impl Fn(&mut P, u32) -> Result<u32, E>,
 ) -> Vec<u64> {
     let mut rng = Rng::new(1);
     let mut live = Vec::new();
@@ -31,21 +31,21 @@ pub fn requests<P: ?Sized, E: Debug>(
     (0..count).map(|_| request()).collect()
 }
 
-/// Serves the requests on a fresh pool, and answers a checksum of offsets and
-/// refusals' numbers: allocators that follow the same rules have the same.
+/// Serves the requests on a fresh pool, and answers a checksum of offsets, bytes
+/// released and refusals' numbers: allocators that follow the same rules have the same.
 #[inline]
 pub fn serve<P: ?Sized, E>(
     requests: &[u64],
     pool: &mut P,
     alloc: impl Fn(&mut P, u32) -> Result<u32, E>,
-    free: impl Fn(&mut P, u32) -> Result<(), E>,
+    free: impl Fn(&mut P, u32) -> Result<u32, E>,
     number: impl Fn(E) -> u8,
 ) -> u64 {
     requests.iter().fold(0, |sum: u64, &request| {
         let answer = if request & FREE == 0 {
             alloc(pool, request as u32)
         } else {
-            free(pool, request as u32).map(|()| 0)
+            free(pool, request as u32)
         };
         let word = match answer {
             Ok(value) => u64::from(value),

@@ -89,8 +89,9 @@ impl Pool {
         }
     }
 
-    /// Gives back the block that begins at `offset`.
-    pub fn free(&mut self, offset: u32) -> Result<(), Refusal> {
+    /// Gives back the block that begins at `offset`, and answers the bytes
+    /// released.
+    pub fn free(&mut self, offset: u32) -> Result<u32, Refusal> {
         if offset >> 12 >= u32::from(self.pages) {
             return Err(Refusal::Outside);
         }
@@ -103,7 +104,7 @@ impl Pool {
             Kind::TakenFirst if within == 0 => {
                 let run = node.run;
                 self.release(page, run);
-                Ok(())
+                Ok(u32::from(run) << 12)
             }
             Kind::TakenFirst | Kind::TakenInside => Err(Refusal::NotAStart),
         }

@@ -35,8 +35,9 @@ pub fn alloc(bytes: &mut [u8], size: u32) -> Result<u32, Refusal> {
     alloc_sound(bytes, size)
 }
 
-/// Gives back the block that begins at `offset`.
-pub fn free(bytes: &mut [u8], offset: u32) -> Result<(), Refusal> {
+/// Gives back the block that begins at `offset`, and answers the bytes
+/// released.
+pub fn free(bytes: &mut [u8], offset: u32) -> Result<u32, Refusal> {
     if broken_rule(bytes) != 0 {
         return Err(Refusal::NotSound);
     }
@@ -71,7 +72,7 @@ fn alloc_pages(bytes: &mut [u8], size: u32) -> Result<u32, Refusal> {
 
 /// [`free`] without the validation. On unsound records it may panic or never
 /// end.
-pub fn free_sound(bytes: &mut [u8], offset: u32) -> Result<(), Refusal> {
+pub fn free_sound(bytes: &mut [u8], offset: u32) -> Result<u32, Refusal> {
     let mut pool = sound(bytes)?;
     let page = (offset >> 12) as usize;
     let within = offset % 4_096;
@@ -83,7 +84,7 @@ pub fn free_sound(bytes: &mut [u8], offset: u32) -> Result<(), Refusal> {
         CLASS_PAGE => pool.free_chunk(page, links, within),
         TAKEN_FIRST if within == 0 => {
             release(pool.header, pool.records, page, run(links));
-            Ok(())
+            Ok((run(links) as u32) << 12)
         }
         kind if kind <= FREE_FIRST => Err(Refusal::NotTaken),
         _ => Err(Refusal::NotAStart),

@@ -128,7 +128,7 @@ fn play(seed: u64, pages: usize, turns: usize, times: usize) -> [usize; 7] {
         let call = calls.next();
         let answer = match call {
             Call::Alloc(size) => packed::alloc_sound(&mut pool, size),
-            Call::Free(offset) => packed::free_sound(&mut pool, offset).map(|()| 0),
+            Call::Free(offset) => packed::free_sound(&mut pool, offset),
         };
         if let Ok(answer) = answer {
             calls.granted(call, answer);

@@ -16,10 +16,7 @@ fn agree(seed: u64, pages: usize, turns: usize) {
         let call = calls.next();
         let (ours, theirs) = match call {
             Call::Alloc(size) => (pool.alloc(size), reference::alloc_sound(&mut bytes, size)),
-            Call::Free(offset) => (
-                pool.free(offset).map(|()| 0),
-                reference::free_sound(&mut bytes, offset).map(|()| 0),
-            ),
+            Call::Free(offset) => (pool.free(offset), reference::free_sound(&mut bytes, offset)),
         };
         let place = format!("seed {seed}, {pages} pages, turn {turn}, {call:?}");
         assert_eq!(ours, theirs, "{place}");

@@ -9,18 +9,17 @@ use support::{class_record_at, length, Rng, LONGEST, PAGE, PER_PAGE};
 use yardstick::packed;
 
 type Format = fn(&mut [u8]) -> Result<u32, Refusal>;
-type Alloc = fn(&mut [u8], u32) -> Result<u32, Refusal>;
-type Free = fn(&mut [u8], u32) -> Result<(), Refusal>;
+type Serve = fn(&mut [u8], u32) -> Result<u32, Refusal>;
 
 /// A pool and the functions that work on it.
 struct Player {
     pool: Vec<u8>,
-    alloc: Alloc,
-    free: Free,
+    alloc: Serve,
+    free: Serve,
 }
 
 impl Player {
-    fn new(mut pool: Vec<u8>, format: Format, alloc: Alloc, free: Free) -> Player {
+    fn new(mut pool: Vec<u8>, format: Format, alloc: Serve, free: Serve) -> Player {
         format(&mut pool).expect("a length that holds pages");
         Player { pool, alloc, free }
     }
@@ -28,7 +27,7 @@ impl Player {
     fn play(&mut self, call: Call) -> Result<u32, Refusal> {
         match call {
             Call::Alloc(size) => (self.alloc)(&mut self.pool, size),
-            Call::Free(offset) => (self.free)(&mut self.pool, offset).map(|()| 0),
+            Call::Free(offset) => (self.free)(&mut self.pool, offset),
         }
     }
 }
@@ -104,7 +103,7 @@ fn every_offset_is_freed_or_refused_alike() {
             let call = calls.next();
             let answer = match call {
                 Call::Alloc(size) => reference::alloc_sound(&mut pool, size),
-                Call::Free(offset) => reference::free_sound(&mut pool, offset).map(|()| 0),
+                Call::Free(offset) => reference::free_sound(&mut pool, offset),
             };
             if let Ok(answer) = answer {
                 calls.granted(call, answer);

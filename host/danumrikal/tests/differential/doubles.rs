@@ -13,7 +13,7 @@ use crate::program::{Program, SECOND};
 const BELIEVES_A_SECOND_FREE: Program = Program {
     name: "believes a second free",
     free: |pool, offset| match (SECOND.free)(pool, offset) {
-        Err(6) if class_at(pool, offset).is_some() => Ok(()),
+        Err(6) => class_at(pool, offset).map_or(Err(6), |class| Ok(class.chunk_size())),
         answer => answer,
     },
     ..SECOND
@@ -126,6 +126,24 @@ const COUNTS_REFUSED_FREES: Program = Program {
     ..SECOND
 };
 
+const TELLS_PAGES: Program = Program {
+    name: "tells a run's pages",
+    free: |pool, offset| match (SECOND.free)(pool, offset) {
+        Ok(bytes) if bytes >= PAGE as u32 => Ok(bytes / PAGE as u32),
+        answer => answer,
+    },
+    ..SECOND
+};
+
+const TELLS_THE_CLASS: Program = Program {
+    name: "tells a chunk's class",
+    free: |pool, offset| match (SECOND.free)(pool, offset) {
+        Ok(bytes) if bytes < PAGE as u32 => Ok(bytes.ilog2() - 3),
+        answer => answer,
+    },
+    ..SECOND
+};
+
 /// Finds the double out and answers what would be printed.
 fn found(double: Program, other: Program) -> Found {
     let plans = (0..1_000).map(|seed| Plan {
@@ -141,7 +159,7 @@ fn found(double: Program, other: Program) -> Found {
 #[test]
 fn every_double_is_caught_in_a_handful_of_calls() {
     for (double, told) in [
-        (BELIEVES_A_SECOND_FREE, "freed, where the live blocks say"),
+        (BELIEVES_A_SECOND_FREE, "back 8, where the live blocks say"),
         (HANDS_OUT_TWICE, "granted block overlaps the live block"),
         (OVERLOOKS_COUNTS, "though the records are unsound"),
         (FORGETS_TO_COUNT_FREES, "the pool shows other used than"),
@@ -149,6 +167,8 @@ fn every_double_is_caught_in_a_handful_of_calls() {
         (WIPES_WHAT_IS_FREED, "bytes that no call writes changed"),
         (WIPES_THE_TAIL, "bytes that no call writes changed"),
         (COUNTS_REFUSED_FREES, "a refused call changed the pool"),
+        (TELLS_PAGES, "the freed block has not"),
+        (TELLS_THE_CLASS, "the freed block has not"),
     ] {
         let different = found(double, SECOND);
         let alone = found(double, double);
@@ -192,7 +212,7 @@ fn what_is_printed() {
 pages 1, tail 0, seed 5, callers' bytes kept between calls
     alloc 0: at 64
     alloc 0: at 72
-    free 72: freed
-    free 72: believes a second free: freed; second: refused with 6";
+    free 72: back 8
+    free 72: believes a second free: back 8; second: refused with 6";
     assert_eq!(found.to_string(), expected);
 }

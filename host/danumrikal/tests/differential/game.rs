@@ -19,7 +19,8 @@ const GUARD: usize = 16;
 #[derive(Clone, Copy, Debug, PartialEq, Eq)]
 pub enum Event {
     Allocated(u32),
-    Freed,
+    /// The bytes released.
+    Freed(u32),
     Refused(u8),
     /// Damaged: the first broken rule, or 0.
     Broken(u8),
@@ -30,7 +31,7 @@ impl fmt::Display for Event {
     fn fmt(&self, f: &mut fmt::Formatter<'_>) -> fmt::Result {
         match self {
             Event::Allocated(offset) => write!(f, "at {offset}"),
-            Event::Freed => f.write_str("freed"),
+            Event::Freed(bytes) => write!(f, "back {bytes}"),
             Event::Refused(number) => write!(f, "refused with {number}"),
             Event::Broken(rule) => write!(f, "broken rule {rule}"),
             Event::Nothing => f.write_str("nothing"),
@@ -169,7 +170,7 @@ impl Game {
         self.before.copy_from_slice(&self.bytes[0]);
         let events = self.on_both(|program, pool| match call {
             Call::Alloc(size) => (program.alloc)(pool, size).map(Event::Allocated),
-            Call::Free(offset) => (program.free)(pool, offset).map(|()| Event::Freed),
+            Call::Free(offset) => (program.free)(pool, offset).map(Event::Freed),
         });
         let events = events.map(|event| event.unwrap_or_else(Event::Refused));
         self.alike(events)?;
@@ -223,7 +224,7 @@ impl Game {
         }
         let entered = match (call, event) {
             (Call::Alloc(size), Event::Allocated(offset)) => live.record_alloc(size, Ok(offset)),
-            (Call::Free(offset), Event::Freed) => live.record_free(offset, Ok(())),
+            (Call::Free(offset), Event::Freed(bytes)) => live.record_free(offset, Ok(bytes)),
             _ => Ok(()),
         };
         entered.map_err(|wrong| format!("{event}: {wrong}"))?;

@@ -96,7 +96,7 @@ impl Seen {
                 };
                 self.allocated[place] += 1;
             }
-            (_, Event::Freed) => self.freed += 1,
+            (_, Event::Freed(_)) => self.freed += 1,
             (_, Event::Refused(number)) => self.refused[usize::from(number)] += 1,
             (_, Event::Broken(rule)) => self.broken[usize::from(rule)] += 1,
             _ => {}
@@ -168,7 +168,7 @@ impl Player {
     fn note(&mut self, number: usize, turn: Turn, event: Event) {
         match (turn, event) {
             (Turn::Alloc(_), Event::Allocated(_)) => self.live.push(number),
-            (Turn::FreeOf(taken), Event::Freed) => {
+            (Turn::FreeOf(taken), Event::Freed(_)) => {
                 self.live.retain(|&turn| turn != taken);
                 self.last_freed = Some(taken);
             }

@@ -7,7 +7,7 @@ pub struct Program {
     pub format: fn(&mut [u8]) -> Result<u32, u8>,
     pub broken_rule: fn(&[u8]) -> u8,
     pub alloc: fn(&mut [u8], u32) -> Result<u32, u8>,
-    pub free: fn(&mut [u8], u32) -> Result<(), u8>,
+    pub free: fn(&mut [u8], u32) -> Result<u32, u8>,
 }
 
 pub const PROVED: Program = Program {

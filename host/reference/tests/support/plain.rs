@@ -68,8 +68,8 @@ impl Plain {
         Ok((page * 4096 + chunk * (8 << class)) as u32)
     }
 
-    /// Nothing or the refusal's number.
-    pub fn free(&mut self, offset: u32) -> Result<(), u8> {
+    /// The bytes released or the refusal's number.
+    pub fn free(&mut self, offset: u32) -> Result<u32, u8> {
         let (page, within) = (offset as usize / 4096, offset as usize % 4096);
         match self.pages.get_mut(page) {
             None => Err(5),
@@ -79,7 +79,7 @@ impl Plain {
             Some(Page::TakenFirst(length)) => {
                 let length = *length;
                 self.release(page, length);
-                Ok(())
+                Ok(length as u32 * 4096)
             }
             Some(Page::Chunks { class, marks }) => {
                 let class = *class;
@@ -98,7 +98,7 @@ impl Plain {
                     self.lists[class].retain(|listed| *listed != page);
                     self.release(page, 1);
                 }
-                Ok(())
+                Ok(8 << class)
             }
         }
     }

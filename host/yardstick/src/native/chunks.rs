@@ -52,7 +52,7 @@ impl Pool {
     }
 
     #[inline]
-    pub(super) fn free_chunk(&mut self, page: u16, within: u32) -> Result<(), Refusal> {
+    pub(super) fn free_chunk(&mut self, page: u16, within: u32) -> Result<u32, Refusal> {
         let node = self.node(page);
         let class = usize::from(node.class);
         let chunk = within >> shift(class);
@@ -73,7 +73,7 @@ impl Pool {
             self.classes[class].total -= CHUNKS[class];
             self.release(page, 1);
         }
-        Ok(())
+        Ok(1 << shift(class))
     }
 
     /// The map of a page of a class that nginx keeps in the page.

@@ -65,7 +65,7 @@ impl Pool<'_> {
 
     /// Gives back the chunk `within` bytes into a class page with these links.
     #[inline]
-    pub fn free_chunk(&mut self, page: usize, links: u64, within: u32) -> Result<(), Refusal> {
+    pub fn free_chunk(&mut self, page: usize, links: u64, within: u32) -> Result<u32, Refusal> {
         let class = class(links);
         let chunk = within >> shift(class);
         if chunk << shift(class) != within || chunk < OWN[class] {
@@ -94,7 +94,7 @@ impl Pool<'_> {
         } else {
             put(list, old - USED);
         }
-        Ok(())
+        Ok(1 << shift(class))
     }
 }
 

@@ -39,7 +39,7 @@ impl Calls {
         }
     }
 
-    /// Notes that a call was granted with this answer, 0 for a free.
+    /// Notes that a call was granted with this answer.
     pub fn granted(&mut self, call: Call, answer: u32) {
         match call {
             Call::Alloc(_) => self.live.push(answer),
