@@ -25,7 +25,7 @@ fn again<'a, E: std::fmt::Debug>(
     mut pool: Vec<u8>,
     size: u32,
     alloc: impl Fn(&mut [u8], u32) -> Result<u32, E> + 'a,
-    free: impl Fn(&mut [u8], u32) -> Result<(), E> + 'a,
+    free: impl Fn(&mut [u8], u32) -> Result<u32, E> + 'a,
 ) -> impl FnMut() -> u64 + 'a {
     move || {
         (0..CALLS)
