@@ -1,17 +1,18 @@
 // An answer as one word, for C and other languages.
 use answers::Allocated;
+use answers::Batched;
 use answers::Formatted;
 use answers::Freed;
+use answers::Refusal;
 ghost use mathlib.Core.Path.{_≡_};
-ghost use Prim.Native.Nat.{_*_};
-ghost use Rattle.answers.specs.Outcome.{ofFormat, ofAlloc, ofFree};
+ghost use Rattle.answers.specs.Outcome.{refused, ofFormat, ofAlloc, ofFree, ofBatch};
 ghost use Rattle.answer_words.specs.Word.{wordOf};
 
 // The refusal's number in the top byte.
-fn refusal_word(n: u8) -> u64
-    ensures { λ r. ⌜ r ≡ n * 72057594037927936 ⌝ }
+pub fn refusal_word(r: Refusal) -> u64
+    ensures { λ x. ⌜ x ≡ wordOf (refused r) ⌝ }
 {
-    n as u64 * 72057594037927936
+    answers::number(r) as u64 * 72057594037927936
 }
 
 pub fn formatted_word(f: Formatted) -> u64
@@ -19,7 +20,7 @@ pub fn formatted_word(f: Formatted) -> u64
 {
     match f {
         Formatted::Pages(n) => n as u64,
-        Formatted::Refused(r) => refusal_word(answers::number(r)),
+        Formatted::Refused(r) => refusal_word(r),
     }
 }
 
@@ -31,7 +32,7 @@ pub fn allocated_word(a: Allocated) -> u64
             let x = o.0;
             x as u64
         }
-        Allocated::Refused(r) => refusal_word(answers::number(r)),
+        Allocated::Refused(r) => refusal_word(r),
     }
 }
 
@@ -40,6 +41,15 @@ pub fn freed_word(f: Freed) -> u64
 {
     match f {
         Freed::Bytes(n) => n as u64,
-        Freed::Refused(r) => refusal_word(answers::number(r)),
+        Freed::Refused(r) => refusal_word(r),
+    }
+}
+
+pub fn batched_word(b: Batched) -> u64
+    ensures { λ r. ⌜ r ≡ wordOf (ofBatch b) ⌝ }
+{
+    match b {
+        Batched::Done => 0,
+        Batched::Refused(r) => refusal_word(r),
     }
 }

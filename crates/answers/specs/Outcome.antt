@@ -6,8 +6,10 @@ use Rattle.answers.specs.declared.Allocated.{Allocated}
 use Rattle.answers.specs.declared.Allocated.the-variants as allocated
 use Rattle.answers.specs.declared.Freed.{Freed}
 use Rattle.answers.specs.declared.Freed.the-variants as freed
+use Rattle.answers.specs.declared.Batched.{Batched}
+use Rattle.answers.specs.declared.Batched.the-variants as batched
 use Rattle.answers.specs.declared.Refusal.{Refusal}
-use Rattle.answers.specs.declared.Refusal.the-variants.{TooShort, TooLong, NotSound, NoRoom, Outside, NotTaken, NotAStart, Unreadable, ScriptTooLong}
+use Rattle.answers.specs.declared.Refusal.the-variants.{TooShort, TooLong, NotSound, NoRoom, Outside, NotTaken, NotAStart, Unreadable, ScriptTooLong, AnswersTooShort}
 
 abbrev pub numberOf : Refusal → ℕ
 numberOf TooShort = 1
@@ -19,6 +21,7 @@ numberOf NotTaken = 6
 numberOf NotAStart = 7
 numberOf Unreadable = 8
 numberOf ScriptTooLong = 9
+numberOf AnswersTooShort = 11
 
 pub record Outcome : Type 0 where
   pub number : ℕ
@@ -41,3 +44,7 @@ ofAlloc (allocated.Refused r) = refused r
 abbrev pub ofFree : Freed → Outcome
 ofFree (freed.Bytes n) = granted n
 ofFree (freed.Refused r) = refused r
+
+abbrev pub ofBatch : Batched → Outcome
+ofBatch batched.Done = granted 0
+ofBatch (batched.Refused r) = refused r

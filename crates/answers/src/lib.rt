@@ -22,6 +22,11 @@ pub enum Freed {
     Refused(Refusal),
 }
 
+pub enum Batched {
+    Done,
+    Refused(Refusal),
+}
+
 pub enum Refusal {
     // format: the slice has no room for one page
     TooShort,
@@ -37,10 +42,12 @@ pub enum Refusal {
     NotTaken,
     // the offset does not start a block
     NotAStart,
-    // a script line that is no call
+    // a script line, or a word of a batch, that is no call
     Unreadable,
     // more script than the program reads
     ScriptTooLong,
+    // batch: fewer places for answers than requests
+    AnswersTooShort,
 }
 
 // The refusal's number (SPEC 5).
@@ -57,5 +64,6 @@ pub fn number(r: Refusal) -> u8
         Refusal::NotAStart => 7,
         Refusal::Unreadable => 8,
         Refusal::ScriptTooLong => 9,
+        Refusal::AnswersTooShort => 11,
     }
 }

@@ -11,7 +11,7 @@ ghost use Rattle.model.specs.Calls.{Alloc, Free};
 ghost use Rattle.demands.specs.Calls.{answered, after};
 
 // The page count of a slice; no sound pool has more than 16 bits tell.
-fn pages_in(w: u8, len: usize) -> u16
+pub fn pages_in(w: u8, len: usize) -> u16
     ensures { λ r. ⌜ r ≡ pageCount w len % 65536 ⌝ }
 {
     (validate_length::page_count(w, len) % 65536) as u16

@@ -7,6 +7,7 @@ ghost use Rattle.model.specs.Calls.{Alloc, Free};
 ghost use Rattle.rules.specs.Bytes.{brokenRule};
 ghost use Rattle.demands.specs.Calls.{answered, after};
 ghost use Rattle.answer_words.specs.Word.{wordOf};
+ghost use Rattle.batch.specs.Batch.{batchOutcome, batchPool, batchAnswers};
 
 // Makes a pool of a slice: the page count, or the refusal.
 #[no_mangle]
@@ -41,4 +42,14 @@ pub extern "C" fn dnk_free(pool: &mut [u8], offset: u32) -> u64
     ensures slice { λ _. ⌜ now (pool .exit) ≡ after 2 (now (pool .entry)) (Free offset) ⌝ }
 {
     answer_words::freed_word(pool::free(pool, Offset(offset)))
+}
+
+// Serves a list of request words, with the words of their answers in a second list: 0, or the refusal.
+#[no_mangle]
+pub extern "C" fn dnk_batch(pool: &mut [u8], requests: &[u64], answers: &mut [u64]) -> u64
+    ensures answer { λ r. ⌜ r ≡ wordOf (batchOutcome 2 (now (pool .entry)) (now (requests .entry)) (now (answers .entry))) ⌝ }
+    ensures pool { λ _. ⌜ now (pool .exit) ≡ batchPool 2 (now (pool .entry)) (now (requests .entry)) (now (answers .entry)) ⌝ }
+    ensures answers { λ _. ⌜ now (answers .exit) ≡ batchAnswers 2 (now (pool .entry)) (now (requests .entry)) (now (answers .entry)) ⌝ }
+{
+    answer_words::batched_word(pool::batch(pool, requests, answers))
 }

@@ -99,7 +99,7 @@ module _ (w : ℕ) (wide : 2 ≤ w) (narrow : w ≤ 255) (s : List ℕ) (C : Byt
     F : Faithful w P B u
     F = demand3 w wide narrow s C B u R
 
-    next : (call : Call) {v : List ℕ} → Rewritten w (after w u call) v → Reached w s (fed B call (answered w u call)) v
+    pub next : (call : Call) {v : List ℕ} → Rewritten w (after w u call) v → Reached w s (fed B call (answered w u call)) v
     next call {v} N =
         let t : Turn = record { bytes = u; call = call } in
         record {

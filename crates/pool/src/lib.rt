@@ -1,15 +1,17 @@
 // The public calls, for pools of edition 1, whose class records have two words.
 use answers::Allocated;
+use answers::Batched;
 use answers::Formatted;
 use answers::Freed;
 use answers::Offset;
 ghost use mathlib.Core.Path.{_≡_};
 ghost use lib.ListN.{length};
-ghost use Rattle.answers.specs.Outcome.{ofFormat, ofAlloc, ofFree};
+ghost use Rattle.answers.specs.Outcome.{ofFormat, ofAlloc, ofFree, ofBatch};
 ghost use Rattle.model.specs.Calls.{Alloc, Free};
 ghost use Rattle.rules.specs.Bytes.{brokenRule};
 ghost use Rattle.format.specs.Format.{formatOutcome, formatted};
 ghost use Rattle.demands.specs.Calls.{answered, after};
+ghost use Rattle.batch.specs.Batch.{batchOutcome, batchPool, batchAnswers};
 
 // Makes a pool of as many pages as the slice has room for: the page count, or the refusal. Page bytes and tail stay.
 pub fn format(pool: &mut [u8]) -> Formatted
@@ -40,4 +42,14 @@ pub fn free(pool: &mut [u8], at: Offset) -> Freed
     ensures slice { λ _. ⌜ now (pool .exit) ≡ after 2 (now (pool .entry)) (Free (at .0)) ⌝ }
 {
     calls::free(pool, 2, at)
+}
+
+// Serves a list of request words under one validation, each on the pool that the one before left, and puts the words of their answers
+// into a second slice (SPEC 12).
+pub fn batch(pool: &mut [u8], requests: &[u64], answers: &mut [u64]) -> Batched
+    ensures answer { λ r. ⌜ ofBatch r ≡ batchOutcome 2 (now (pool .entry)) (now (requests .entry)) (now (answers .entry)) ⌝ }
+    ensures pool { λ _. ⌜ now (pool .exit) ≡ batchPool 2 (now (pool .entry)) (now (requests .entry)) (now (answers .entry)) ⌝ }
+    ensures answers { λ _. ⌜ now (answers .exit) ≡ batchAnswers 2 (now (pool .entry)) (now (requests .entry)) (now (answers .entry)) ⌝ }
+{
+    batch::batch(pool, 2, requests, answers)
 }

@@ -12,9 +12,6 @@ cast-result c = search needs
 enum-known-a-2 : tie.Need-enum-known-a-2
 enum-known-a-2 c = search needs
 
-number-requires : tie.Need-number-requires
-number-requires c κs = search needs
-
 refusal-word-requires : tie.Need-refusal-word-requires
 refusal-word-requires c κs = search needs
 
@@ -22,7 +19,7 @@ returns : tie.Need-returns
 returns c = rw (c .before .a .given .1) (omega arith)
 
 returns-2 : tie.Need-returns-2
-returns-2 c = rw (c .before .before .before .a2 .given .1) (omega arith)
+returns-2 c = rw (c .before .before .a2 .given .1) (omega arith)
 
 pub allocated-word-spec : {M : Type 1} → statement M
 allocated-word-spec =
@@ -31,7 +28,6 @@ allocated-word-spec =
     enum-known-a
     cast-result
     enum-known-a-2
-    number-requires
     refusal-word-requires
     returns
     returns-2)

@@ -12,9 +12,6 @@ cast-result c = search needs
 enum-known-f-2 : tie.Need-enum-known-f-2
 enum-known-f-2 c = search needs
 
-number-requires : tie.Need-number-requires
-number-requires c κs = search needs
-
 refusal-word-requires : tie.Need-refusal-word-requires
 refusal-word-requires c κs = search needs
 
@@ -22,7 +19,7 @@ returns : tie.Need-returns
 returns c = rw (c .before .f .given .1) (omega arith)
 
 returns-2 : tie.Need-returns-2
-returns-2 c = rw (c .before .before .before .f2 .given .1) (omega arith)
+returns-2 c = rw (c .before .before .f2 .given .1) (omega arith)
 
 pub formatted-word-spec : {M : Type 1} → statement M
 formatted-word-spec =
@@ -31,7 +28,6 @@ formatted-word-spec =
     enum-known-f
     cast-result
     enum-known-f-2
-    number-requires
     refusal-word-requires
     returns
     returns-2)

@@ -1,0 +1,22 @@
+use borrow.Author.Needs.{needs}
+use Rattle.batch.proofs.Serving.{free-served}
+use Rattle.batch.proofs.give.Statement.{statement}
+use Rattle.batch.proofs.give.Tie as tie
+
+free-sound-requires : tie.Need-free-sound-requires
+free-sound-requires c κs = search needs
+
+freed-word-requires : tie.Need-freed-word-requires
+freed-word-requires c κs = search needs
+
+same-length : tie.Need-same-length
+same-length c = search needs
+
+returns : tie.Need-returns
+returns c =
+    let done = c .before .before .before in
+    let known = done .before .before .before in
+    free-served (known .pre) (c .freed-word .ensures) (known .args .offset) (done .free-sound .ensures .0) (done .free-sound .ensures .1)
+
+pub give-spec : {M : Type 1} → statement M
+give-spec = tie.close (tie.spec free-sound-requires freed-word-requires same-length returns)

@@ -1,0 +1,22 @@
+use borrow.Author.Needs.{needs}
+use Rattle.batch.proofs.Serving.{alloc-served}
+use Rattle.batch.proofs.take.Statement.{statement}
+use Rattle.batch.proofs.take.Tie as tie
+
+alloc-sound-requires : tie.Need-alloc-sound-requires
+alloc-sound-requires c κs = search needs
+
+allocated-word-requires : tie.Need-allocated-word-requires
+allocated-word-requires c κs = search needs
+
+same-length : tie.Need-same-length
+same-length c = search needs
+
+returns : tie.Need-returns
+returns c =
+    let done = c .before .before .before in
+    let known = done .before .before .before in
+    alloc-served (known .pre) (c .allocated-word .ensures) (known .args .size) (done .alloc-sound .ensures .0) (done .alloc-sound .ensures .1)
+
+pub take-spec : {M : Type 1} → statement M
+take-spec = tie.close (tie.spec alloc-sound-requires allocated-word-requires same-length returns)
