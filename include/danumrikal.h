@@ -2,29 +2,31 @@
  * Danumrikal: a slab allocator in a shared slice of bytes, for C99 and C++.
  *
  * A pool is a pointer and a length. `rt staticlib danumrikal` makes the archive
- * with the four calls, target/staticlib/libdanumrikal.a; it needs no other
+ * with the five calls, target/staticlib/libdanumrikal.a; it needs no other
  * library.
  *
- * The four calls are proved: whatever the bytes hold and whatever size or
- * offset is passed, each returns, stays inside the given bytes and answers. A
- * refused call changes nothing, but that a chunk refused for room is counted in
- * its class's asks and failures. No call writes a block's bytes. An offset at
- * which no live block begins is never freed: a block freed twice is refused, as
- * long as its place was not handed out again. The inline functions are tested.
- * docs/SPEC.md has all rules.
+ * The five calls are proved: whatever the bytes hold and whatever is passed,
+ * each returns, stays inside the given bytes and answers. A refused call changes
+ * nothing, but that a chunk refused for room is counted in its class's asks and
+ * failures. No call writes a block's bytes. An offset at which no live block
+ * begins is never freed: a block freed twice is refused, as long as its place
+ * was not handed out again. The inline functions are tested. docs/SPEC.md has
+ * all rules.
  *
  * What the host program keeps:
  *
  * - pool is not null and names len bytes that stay mapped during the call:
  *   readable for dnk_validate, writable too for the others. Any alignment will
  *   do; see dnk_place for that of blocks.
+ * - requests and answers of a batch are not null either, lie where a uint64_t
+ *   may, and share no byte with the pool or each other.
  * - One call at a time, and nobody else writes any of the len bytes meanwhile,
  *   blocks included: processes that share a pool need a lock. The library has
  *   none.
  * - Between calls only blocks' own bytes are written, and the bytes behind the
  *   last page. Header, records and maps are the calls' alone; where somebody
- *   wrote them nevertheless, dnk_alloc and dnk_free refuse as long as the
- *   records are unsound (DNK_NOT_SOUND).
+ *   wrote them nevertheless, dnk_alloc, dnk_free and dnk_batch refuse as long
+ *   as the records are unsound (DNK_NOT_SOUND).
  * - A block belongs to whoever was answered its offset, until it is freed; its
  *   size is for the host to remember. Offsets hold in every process, wherever
  *   the pool is mapped there; pointers don't.
@@ -67,7 +69,9 @@ enum dnk_refusal {
     DNK_NO_ROOM = 4,
     DNK_OUTSIDE = 5,
     DNK_NOT_TAKEN = 6,
-    DNK_NOT_A_START = 7
+    DNK_NOT_A_START = 7,
+    DNK_UNREADABLE = 8,
+    DNK_ANSWERS_TOO_SHORT = 11
 };
 
 /*
@@ -112,6 +116,38 @@ dnk_answer dnk_alloc(uint8_t *pool, size_t len, uint32_t size);
  */
 dnk_answer dnk_free(uint8_t *pool, size_t len, uint32_t offset);
 
+/*
+ * A request of a batch is one word: top bit 0 to alloc and 1 to free, 31 zero
+ * bits, the size or the offset in the low 32. dnk_to_alloc and dnk_to_free make
+ * it; any other word has stray bits.
+ */
+typedef uint64_t dnk_request;
+
+/*
+ * Makes many calls under one validation, each on the pool that the one before
+ * left: answers[i] becomes the answer that dnk_alloc or dnk_free would give to
+ * requests[i]. A word with stray bits is answered with DNK_UNREADABLE; it
+ * changes nothing, and the next is served. Answers beyond the requests stay.
+ * The value of the batch itself is 0. Refused by the first of these, and then
+ * pool and answers stay as they are:
+ *   DNK_ANSWERS_TOO_SHORT  fewer answers than requests
+ *   DNK_NOT_SOUND          the records break a rule
+ */
+dnk_answer dnk_batch(uint8_t *pool, size_t len, const dnk_request *requests, size_t request_count,
+                     dnk_answer *answers, size_t answer_count);
+
+/* The request to take a block of at least size bytes. */
+static inline dnk_request dnk_to_alloc(uint32_t size)
+{
+    return size;
+}
+
+/* The request to give back the block that begins at offset. */
+static inline dnk_request dnk_to_free(uint32_t offset)
+{
+    return (dnk_request)1 << 63 | offset;
+}
+
 /* The refusal of an answer. */
 static inline enum dnk_refusal dnk_refusal_of(dnk_answer answer)
 {
@@ -136,6 +172,8 @@ static inline const char *dnk_refusal_name(enum dnk_refusal refusal)
     case DNK_OUTSIDE: return "outside";
     case DNK_NOT_TAKEN: return "not taken";
     case DNK_NOT_A_START: return "not a start";
+    case DNK_UNREADABLE: return "unreadable";
+    case DNK_ANSWERS_TOO_SHORT: return "answers too short";
     }
     return "unknown";
 }

@@ -1,15 +1,16 @@
-//! Serves 10,000 fixed requests with one allocator, after as many others as one
-//! likes, and prints a checksum of the answers. `host/count` counts the
-//! instructions inside single functions: the proved library's exported ones and
-//! the `count_` ones here, which therefore are never inlined. What comes before
-//! the 10,000 requests goes through other functions and is not counted.
+//! Serves 10,000 fixed requests with one allocator, one by one or as a batch,
+//! after as many others as one likes, and prints a checksum of the answers.
+//! `host/count` counts the instructions inside single functions: the proved
+//! library's exported ones and the `count_` ones here, which therefore are never
+//! inlined. What comes before the 10,000 requests goes through other functions
+//! and is not counted.
 
 #![forbid(unsafe_code)]
 
 use std::process::ExitCode;
 
-use danumrikal::{check, Offset, Pool, Rule};
-use support::{requests, serve};
+use danumrikal::{check, Answer, Offset, Pool, Request, Rule};
+use support::{requests, serve, sum_of};
 use yardstick::{native, packed, Refusal};
 
 const REQUESTS: usize = 10_000;
@@ -39,21 +40,61 @@ fn count_native_free(pool: &mut native::Pool, offset: u32) -> Result<u32, Refusa
     pool.free(offset)
 }
 
-/// Serves the requests on packed bytes, with a validation before each of `list`.
+#[inline(never)]
+fn count_packed_batch(pool: &mut [u8], requests: &[u64], answers: &mut [u64]) {
+    packed::batch(pool, requests, answers).expect("a sound pool, and room for the answers");
+}
+
+#[inline(never)]
+fn count_native_batch(pool: &mut native::Pool, requests: &[u64], answers: &mut [u64]) {
+    pool.batch(requests, answers).expect("room for the answers");
+}
+
+/// The proved batch, which is counted by its exported name.
+fn proved_batch(pool: &mut [u8], requests: &[u64], answers: &mut [u64]) {
+    let requests: Vec<_> = requests.iter().copied().map(Request::from_word).collect();
+    let mut given = vec![Answer::default(); answers.len()];
+    let done = Pool::new(pool).batch(&requests, &mut given);
+    done.expect("a sound pool, and room for the answers");
+    for (word, answer) in answers.iter_mut().zip(given) {
+        *word = answer.word();
+    }
+}
+
+/// A pool of packed bytes after these requests.
+fn packed_pool(pages: u16, before: &[u64]) -> Vec<u8> {
+    let mut pool = vec![0; support::length(usize::from(pages))];
+    packed::format(&mut pool).expect("a length that holds pages");
+    let (alloc, free) = (packed::alloc_sound, packed::free_sound);
+    serve(before, pool.as_mut_slice(), alloc, free, Refusal::number);
+    pool
+}
+
+/// A pool of native structs after these requests.
+fn native_pool(pages: u16, before: &[u64]) -> native::Pool {
+    let mut pool = native::Pool::new(pages);
+    let (alloc, free) = (native::Pool::alloc, native::Pool::free);
+    serve(before, &mut pool, alloc, free, Refusal::number);
+    pool
+}
+
+/// Serves the requests as one batch.
+fn serve_batch<P>(mut pool: P, list: &[u64], batch: fn(&mut P, &[u64], &mut [u64])) -> u64 {
+    let mut answers = vec![0; list.len()];
+    batch(&mut pool, list, &mut answers);
+    sum_of(answers)
+}
+
+/// Serves the requests on packed bytes, with a validation before each.
 fn serve_packed<E>(
-    pages: u16,
-    before: &[u64],
+    mut pool: Vec<u8>,
     list: &[u64],
     validate: fn(&[u8]) -> u8,
     alloc: fn(&mut [u8], u32) -> Result<u32, E>,
     free: fn(&mut [u8], u32) -> Result<u32, E>,
     number: fn(E) -> u8,
 ) -> u64 {
-    let mut pool = vec![0; support::length(usize::from(pages))];
     let pool = pool.as_mut_slice();
-    packed::format(pool).expect("a length that holds pages");
-    let (alloc_sound, free_sound) = (packed::alloc_sound, packed::free_sound);
-    serve(before, pool, alloc_sound, free_sound, Refusal::number);
     let validated = |pool: &[u8]| assert_eq!(validate(pool), 0);
     serve(
         list,
@@ -78,8 +119,7 @@ fn checksum(who: &str, pages: u16, before: usize) -> Option<u64> {
     let (before, list) = all.split_at(before);
     match who {
         "proved" => Some(serve_packed(
-            pages,
-            before,
+            packed_pool(pages, before),
             list,
             |pool| check(pool).err().map_or(0, Rule::number),
             |pool, size| Pool::new(pool).alloc(size).map(|offset| offset.0),
@@ -87,8 +127,7 @@ fn checksum(who: &str, pages: u16, before: usize) -> Option<u64> {
             danumrikal::Refusal::number,
         )),
         "packed" => Some(serve_packed(
-            pages,
-            before,
+            packed_pool(pages, before),
             list,
             count_packed_validate,
             count_packed_alloc,
@@ -96,11 +135,27 @@ fn checksum(who: &str, pages: u16, before: usize) -> Option<u64> {
             Refusal::number,
         )),
         "native" => {
-            let pool = &mut native::Pool::new(pages);
-            serve(before, pool, alloc, free, Refusal::number);
+            let pool = &mut native_pool(pages, before);
             let (alloc, free) = (count_native_alloc, count_native_free);
             Some(serve(list, pool, alloc, free, Refusal::number))
         }
+        "proved-batch" => {
+            let pool = packed_pool(pages, before);
+            Some(serve_batch(pool, list, |pool, xs, ys| {
+                proved_batch(pool, xs, ys)
+            }))
+        }
+        "packed-batch" => {
+            let pool = packed_pool(pages, before);
+            Some(serve_batch(pool, list, |pool, xs, ys| {
+                count_packed_batch(pool, xs, ys)
+            }))
+        }
+        "native-batch" => Some(serve_batch(
+            native_pool(pages, before),
+            list,
+            count_native_batch,
+        )),
         _ => None,
     }
 }
@@ -115,7 +170,7 @@ fn main() -> ExitCode {
         _ => None,
     };
     let Some(sum) = sum else {
-        eprintln!("counting: proved, packed or native; 1 to 256 pages; requests before");
+        eprintln!("counting: proved, packed or native, or one with -batch; 1 to 256 pages; requests before");
         return ExitCode::FAILURE;
     };
     println!("{sum}");

@@ -1,11 +1,21 @@
 //! The exported functions. The proofs cover them for every pointer and length
 //! that make a slice, which is what the safe functions here pass.
 
+use crate::{Answer, Request};
+
 extern "C" {
     fn dnk_format(pool: *mut u8, len: usize) -> u64;
     fn dnk_validate(pool: *const u8, len: usize) -> u64;
     fn dnk_alloc(pool: *mut u8, len: usize, size: u32) -> u64;
     fn dnk_free(pool: *mut u8, len: usize, offset: u32) -> u64;
+    fn dnk_batch(
+        pool: *mut u8,
+        len: usize,
+        requests: *const Request,
+        request_count: usize,
+        answers: *mut Answer,
+        answer_count: usize,
+    ) -> u64;
 }
 
 pub fn format(pool: &mut [u8]) -> u64 {
@@ -26,4 +36,20 @@ pub fn alloc(pool: &mut [u8], size: u32) -> u64 {
 pub fn free(pool: &mut [u8], offset: u32) -> u64 {
     // SAFETY: pointer and length are those of a slice that is lent for the call.
     unsafe { dnk_free(pool.as_mut_ptr(), pool.len(), offset) }
+}
+
+pub fn batch(pool: &mut [u8], requests: &[Request], answers: &mut [Answer]) -> u64 {
+    // SAFETY: pointers and lengths are those of slices that are lent for the
+    // call, of which those to write share no byte with another; a request and
+    // an answer are a `u64` each.
+    unsafe {
+        dnk_batch(
+            pool.as_mut_ptr(),
+            pool.len(),
+            requests.as_ptr(),
+            requests.len(),
+            answers.as_mut_ptr(),
+            answers.len(),
+        )
+    }
 }

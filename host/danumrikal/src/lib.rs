@@ -24,17 +24,19 @@
 //! What the host program keeps: the memory and its mapping, a lock where
 //! processes share a pool, so that nobody else writes any of it while its bytes
 //! are lent, which block is whose and how long, and that between calls nobody
-//! writes header, records and maps. Where somebody does, [`Pool::alloc`] and
-//! [`Pool::free`] refuse with [`Refusal::NotSound`] as long as the records are
-//! unsound.
+//! writes header, records and maps. Where somebody does, [`Pool::alloc`],
+//! [`Pool::free`] and [`Pool::batch`] refuse with [`Refusal::NotSound`] as long
+//! as the records are unsound.
 
 #![deny(missing_docs)]
 
+mod batch;
 mod ffi;
 mod pool;
 mod refusal;
 mod rule;
 
+pub use batch::{Answer, Request};
 pub use pool::{check, length, Offset, Pool, MOST_PAGES, PAGE};
 pub use refusal::Refusal;
 pub use rule::Rule;

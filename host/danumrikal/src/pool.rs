@@ -1,7 +1,7 @@
 use std::fmt;
 use std::ops::Range;
 
-use crate::{ffi, Refusal, Rule};
+use crate::{ffi, Answer, Refusal, Request, Rule};
 
 /// Bytes of a page.
 pub const PAGE: usize = 4_096;
@@ -40,12 +40,8 @@ impl fmt::Display for Offset {
     }
 }
 
-/// An answer word: the refusal's number in the top byte, the value in the low half.
 fn answer(word: u64) -> Result<u32, Refusal> {
-    match (word >> 56) as u8 {
-        0 => Ok(word as u32),
-        number => Err(Refusal::from_number(number).expect("a number of the table")),
-    }
+    Answer::from_word(word).value()
 }
 
 /// Whether the records are sound: [`Pool::check`] for bytes that are lent to be
@@ -205,6 +201,40 @@ impl<'a> Pool<'a> {
     /// ```
     pub fn free(&mut self, offset: Offset) -> Result<u32, Refusal> {
         answer(ffi::free(self.bytes, offset.0))
+    }
+
+    /// Makes many calls under one validation, each on the pool that the one
+    /// before left: every answer is the one that [`Pool::alloc`] or
+    /// [`Pool::free`] would give. A request with stray bits is refused with
+    /// [`Refusal::Unreadable`] and the next is served. Answers beyond the
+    /// requests stay.
+    ///
+    /// # Errors
+    ///
+    /// The first of these; pool and answers stay as they are:
+    ///
+    /// - [`Refusal::AnswersTooShort`]: fewer answers than requests
+    /// - [`Refusal::NotSound`]: the records break a rule, also for no requests
+    ///
+    /// ```
+    /// use danumrikal::{length, Answer, Offset, Pool, Refusal, Request};
+    ///
+    /// let mut bytes = vec![0; length(12)];
+    /// let mut pool = Pool::new(&mut bytes);
+    /// pool.format()?;
+    /// let requests = [Request::alloc(30), Request::alloc(64), Request::free(Offset(7))];
+    /// let mut answers = [Answer::default(); 3];
+    /// pool.batch(&requests, &mut answers)?;
+    /// assert_eq!(answers[0].block(), Ok(Offset(32)));
+    /// assert_eq!(answers[1].block(), Ok(Offset(4_096)));
+    /// assert_eq!(answers[2].value(), Err(Refusal::NotAStart));
+    ///
+    /// let refused = pool.batch(&requests, &mut answers[..2]);
+    /// assert_eq!(refused, Err(Refusal::AnswersTooShort));
+    /// # Ok::<(), Refusal>(())
+    /// ```
+    pub fn batch(&mut self, requests: &[Request], answers: &mut [Answer]) -> Result<(), Refusal> {
+        answer(ffi::batch(self.bytes, requests, answers)).map(|_| ())
     }
 
     /// The bytes of a block, for an offset and a size that [`Pool::alloc`]

@@ -17,7 +17,7 @@ pub enum Refusal {
     /// Format: the slice has 1,056,936 bytes or more and holds more than 256
     /// pages.
     TooLong = 2,
-    /// Alloc or free: the records break a rule.
+    /// Alloc, free or batch: the records break a rule.
     NotSound = 3,
     /// Alloc: no free chunk and no free page, or no run long enough.
     NoRoom = 4,
@@ -27,9 +27,13 @@ pub enum Refusal {
     NotTaken = 6,
     /// Free: no block can begin at the offset.
     NotAStart = 7,
+    /// In a batch: a request with stray bits.
+    Unreadable = 8,
+    /// Batch: fewer answers than requests.
+    AnswersTooShort = 11,
 }
 
-const ALL: [Refusal; 7] = [
+const ALL: [Refusal; 9] = [
     Refusal::TooShort,
     Refusal::TooLong,
     Refusal::NotSound,
@@ -37,6 +41,8 @@ const ALL: [Refusal; 7] = [
     Refusal::Outside,
     Refusal::NotTaken,
     Refusal::NotAStart,
+    Refusal::Unreadable,
+    Refusal::AnswersTooShort,
 ];
 
 impl Refusal {
@@ -68,6 +74,8 @@ impl Refusal {
             Refusal::Outside => "outside",
             Refusal::NotTaken => "not taken",
             Refusal::NotAStart => "not a start",
+            Refusal::Unreadable => "unreadable",
+            Refusal::AnswersTooShort => "answers too short",
         }
     }
 }

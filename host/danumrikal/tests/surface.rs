@@ -13,6 +13,11 @@ fn refusals_have_the_second_programs_numbers_and_names() {
         (Refusal::Outside, reference::Refusal::Outside),
         (Refusal::NotTaken, reference::Refusal::NotTaken),
         (Refusal::NotAStart, reference::Refusal::NotAStart),
+        (Refusal::Unreadable, reference::Refusal::Unreadable),
+        (
+            Refusal::AnswersTooShort,
+            reference::Refusal::AnswersTooShort,
+        ),
     ];
     for (ours, theirs) in refusals {
         assert_eq!(ours.number(), theirs.number());

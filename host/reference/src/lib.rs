@@ -4,7 +4,8 @@
 //! Differential tests and benchmarks hold the proved allocator against it. A
 //! pool is a lent slice of bytes; every call works on that slice in place.
 //!
-//! - [`format()`], [`validate()`], [`alloc()`] and [`free()`] are the four calls.
+//! - [`format()`], [`validate()`], [`alloc()`], [`free()`] and [`batch()`] are the
+//!   calls.
 //! - [`view`] predicts, from calls and answers alone, what a pool must show.
 //! - [`script`] serves a text of takes and gives.
 //! - [`mod@report`] prints what the image of a pool holds.
@@ -12,6 +13,7 @@
 #![forbid(unsafe_code)]
 #![warn(missing_docs)]
 
+pub mod batch;
 pub mod class;
 pub mod layout;
 pub mod pool;
@@ -21,6 +23,7 @@ pub mod script;
 pub mod validate;
 pub mod view;
 
+pub use batch::batch;
 pub use class::{need, Class, Need, CLASSES};
 pub use pool::{alloc, alloc_sound, format, free, free_sound};
 pub use refusal::Refusal;

@@ -1,4 +1,4 @@
-//! The nine ways a call or a script line is refused.
+//! The ten ways a call or a script line is refused.
 
 use std::fmt;
 
@@ -10,7 +10,7 @@ pub enum Refusal {
     /// Format: the slice holds more pages than a pool may have. Report: the
     /// image holds more than twelve.
     TooLong,
-    /// Alloc or free: the pool's records are not sound.
+    /// Alloc, free or batch: the pool's records are not sound.
     NotSound,
     /// Alloc: no free chunk and no free page, or no run long enough.
     NoRoom,
@@ -20,10 +20,12 @@ pub enum Refusal {
     NotTaken,
     /// Free: no block can begin at this offset.
     NotAStart,
-    /// Script: the line is not a call.
+    /// Script: the line is not a call. Batch: the word has stray bits.
     Unreadable,
     /// Script: the input is longer than a script may be.
     ScriptTooLong,
+    /// Batch: the list for answers is shorter than the requests.
+    AnswersTooShort,
 }
 
 impl Refusal {
@@ -39,6 +41,7 @@ impl Refusal {
             Refusal::NotAStart => 7,
             Refusal::Unreadable => 8,
             Refusal::ScriptTooLong => 9,
+            Refusal::AnswersTooShort => 11,
         }
     }
 }
@@ -55,6 +58,7 @@ impl fmt::Display for Refusal {
             Refusal::NotAStart => "not a start",
             Refusal::Unreadable => "unreadable",
             Refusal::ScriptTooLong => "script too long",
+            Refusal::AnswersTooShort => "answers too short",
         })
     }
 }

@@ -4,7 +4,7 @@
 use std::io::Write;
 use std::process::{Command, Stdio};
 
-use reference::{alloc, format, free, run_script, shown, validate, Class, Refusal};
+use reference::{alloc, batch, format, free, run_script, shown, validate, Class, Refusal};
 
 #[path = "support/bits.rs"]
 #[allow(dead_code)] // These tests read only a few of the fields.
@@ -527,18 +527,82 @@ fn the_script_program() {
 #[test]
 fn refusal_numbers() {
     let refusals = [
-        (Refusal::TooShort, "too short"),
-        (Refusal::TooLong, "too long"),
-        (Refusal::NotSound, "not sound"),
-        (Refusal::NoRoom, "no room"),
-        (Refusal::Outside, "outside"),
-        (Refusal::NotTaken, "not taken"),
-        (Refusal::NotAStart, "not a start"),
-        (Refusal::Unreadable, "unreadable"),
-        (Refusal::ScriptTooLong, "script too long"),
+        (1, Refusal::TooShort, "too short"),
+        (2, Refusal::TooLong, "too long"),
+        (3, Refusal::NotSound, "not sound"),
+        (4, Refusal::NoRoom, "no room"),
+        (5, Refusal::Outside, "outside"),
+        (6, Refusal::NotTaken, "not taken"),
+        (7, Refusal::NotAStart, "not a start"),
+        (8, Refusal::Unreadable, "unreadable"),
+        (9, Refusal::ScriptTooLong, "script too long"),
+        (11, Refusal::AnswersTooShort, "answers too short"),
     ];
-    for (number, (refusal, name)) in (1..).zip(refusals) {
+    for (number, refusal, name) in refusals {
         assert_eq!(refusal.number(), number);
         assert_eq!(refusal.to_string(), name);
     }
+}
+
+/// The request word of a give.
+fn give(offset: u64) -> u64 {
+    1 << 63 | offset
+}
+
+/// The answer word of a refusal.
+fn no(number: u64) -> u64 {
+    number << 56
+}
+
+#[test]
+fn a_batch_answers_as_single_calls_do() {
+    let mut bytes = pool(12);
+    let mut alone = bytes.clone();
+    let requests = [30, 64, 5_000, give(32), give(32), 4_294_967_295];
+    let mut answers = [7; 8];
+    assert_eq!(batch(&mut bytes, &requests, &mut answers), Ok(()));
+    assert_eq!(alloc(&mut alone, 30), Ok(32));
+    assert_eq!(alloc(&mut alone, 64), Ok(4_096));
+    assert_eq!(alloc(&mut alone, 5_000), Ok(8_192));
+    assert!(free(&mut alone, 32).is_ok());
+    assert_eq!(free(&mut alone, 32), Err(Refusal::NotTaken));
+    assert_eq!(alloc(&mut alone, u32::MAX), Err(Refusal::NoRoom));
+    assert_eq!(answers[..3], [32, 4_096, 8_192]);
+    assert_eq!(answers[3] >> 56, 0);
+    assert_eq!(answers[4..6], [no(6), no(4)]);
+    // Answer words beyond the requests stay.
+    assert_eq!(answers[6..], [7, 7]);
+    assert!(bytes == alone);
+}
+
+#[test]
+fn stray_bits_of_a_batch() {
+    let strays = (32..63).flat_map(|bit| [1 << bit | 8, give(0) | 1 << bit]);
+    for stray in strays.chain([u64::MAX]) {
+        let mut bytes = pool(1);
+        let mut answers = [0; 3];
+        assert_eq!(batch(&mut bytes, &[8, stray, 8], &mut answers), Ok(()));
+        assert_eq!(answers, [64, no(8), 72], "{stray:#x}");
+    }
+}
+
+#[test]
+fn a_batch_is_refused_whole() {
+    let mut bytes = pool(1);
+    let mut answers = [7; 1];
+    let before = bytes.clone();
+    let refused = batch(&mut bytes, &[8, 8], &mut answers);
+    assert_eq!(refused, Err(Refusal::AnswersTooShort));
+    assert!(bytes == before && answers == [7]);
+
+    bytes[0] = 2;
+    let before = bytes.clone();
+    let refused = batch(&mut bytes, &[8, 8], &mut answers);
+    assert_eq!(refused, Err(Refusal::AnswersTooShort));
+    assert_eq!(
+        batch(&mut bytes, &[8], &mut answers),
+        Err(Refusal::NotSound)
+    );
+    assert_eq!(batch(&mut bytes, &[], &mut []), Err(Refusal::NotSound));
+    assert!(bytes == before && answers == [7]);
 }

@@ -15,5 +15,5 @@ pub use layout::{
     callers_bytes, class_record_at, length, page_at, page_record_at, HEAD, HEADER, LONGEST,
     MOST_PAGES, PAGE, PER_PAGE, RECORD, SHORTEST,
 };
-pub use requests::{best_in_turn, requests, serve};
+pub use requests::{best_in_turn, requests, serve, sum_of};
 pub use rng::Rng;

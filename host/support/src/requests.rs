@@ -41,18 +41,24 @@ pub fn serve<P: ?Sized, E>(
     free: impl Fn(&mut P, u32) -> Result<u32, E>,
     number: impl Fn(E) -> u8,
 ) -> u64 {
-    requests.iter().fold(0, |sum: u64, &request| {
+    sum_of(requests.iter().map(|&request| {
         let answer = if request & FREE == 0 {
             alloc(pool, request as u32)
         } else {
             free(pool, request as u32)
         };
-        let word = match answer {
+        match answer {
             Ok(value) => u64::from(value),
             Err(refusal) => u64::from(number(refusal)) << 56,
-        };
-        sum.wrapping_mul(31).wrapping_add(word)
-    })
+        }
+    }))
+}
+
+/// A checksum of answers as words.
+#[inline]
+pub fn sum_of(answers: impl IntoIterator<Item = u64>) -> u64 {
+    let add = |sum: u64, word| sum.wrapping_mul(31).wrapping_add(word);
+    answers.into_iter().fold(0, add)
 }
 
 /// Nanoseconds that each run takes, the best of several rounds. A round has all

@@ -13,5 +13,6 @@ mod class;
 mod map;
 pub mod native;
 pub mod packed;
+mod words;
 
 pub use reference::Refusal;

@@ -49,7 +49,7 @@ pub fn take_lowest(word: &mut impl MapWord) -> Option<(u32, u64)> {
 
 /// Marks the lowest free chunk of a map that has one, and tells whether it was
 /// the last.
-#[inline]
+#[inline(always)]
 pub fn take_from_words(map: &mut [impl MapWord]) -> Option<(u32, bool)> {
     for (index, word) in map.iter_mut().enumerate() {
         if let Some((bit, marks)) = take_lowest(word) {
@@ -75,7 +75,7 @@ pub fn give(word: &mut impl MapWord, chunk: u32) -> Result<(u64, u64), Refusal> 
 
 /// Clears a mark of a map; tells whether the map was full before, and whether
 /// it is now that of a page without a block, with `unused` for its first word.
-#[inline]
+#[inline(always)]
 pub fn give_to_words(
     map: &mut [impl MapWord],
     chunk: u32,

@@ -7,7 +7,7 @@ mod chunks;
 mod runs;
 
 use crate::class::{class_of, CLASSES, LARGEST_CHUNK};
-use crate::Refusal;
+use crate::{words, Refusal};
 
 /// What a page is.
 #[derive(Clone, Copy, PartialEq, Eq)]
@@ -81,6 +81,7 @@ impl Pool {
     }
 
     /// Takes a block of at least `size` bytes and answers its offset.
+    #[inline(always)]
     pub fn alloc(&mut self, size: u32) -> Result<u32, Refusal> {
         if size <= LARGEST_CHUNK {
             self.alloc_chunk(class_of(size))
@@ -91,6 +92,7 @@ impl Pool {
 
     /// Gives back the block that begins at `offset`, and answers the bytes
     /// released.
+    #[inline(always)]
     pub fn free(&mut self, offset: u32) -> Result<u32, Refusal> {
         if offset >> 12 >= u32::from(self.pages) {
             return Err(Refusal::Outside);
@@ -108,6 +110,15 @@ impl Pool {
             }
             Kind::TakenFirst | Kind::TakenInside => Err(Refusal::NotAStart),
         }
+    }
+
+    /// Serves request words, with a word for each answer.
+    pub fn batch(&mut self, requests: &[u64], answers: &mut [u64]) -> Result<(), Refusal> {
+        if answers.len() < requests.len() {
+            return Err(Refusal::AnswersTooShort);
+        }
+        words::serve(self, requests, answers, Pool::alloc, Pool::free);
+        Ok(())
     }
 
     #[inline]

@@ -9,7 +9,7 @@ mod validate;
 pub use validate::broken_rule;
 
 use crate::class::{class_of, CLASSES, LARGEST_CHUNK};
-use crate::Refusal;
+use crate::{words, Refusal};
 use layout::{
     get, kind, page_count, put, run, stated_pages, Pool, CLASS_PAGE, CONSTANTS, FIRST_SHIFT,
     FREE_FIRST, NONE, TAKEN_FIRST,
@@ -73,26 +73,67 @@ fn alloc_pages(bytes: &mut [u8], size: u32) -> Result<u32, Refusal> {
 /// [`free`] without the validation. On unsound records it may panic or never
 /// end.
 pub fn free_sound(bytes: &mut [u8], offset: u32) -> Result<u32, Refusal> {
-    let mut pool = sound(bytes)?;
-    let page = (offset >> 12) as usize;
-    let within = offset % 4_096;
-    let Some([_, links]) = pool.records.get(page) else {
-        return Err(Refusal::Outside);
-    };
-    let links = get(links);
-    match kind(links) {
-        CLASS_PAGE => pool.free_chunk(page, links, within),
-        TAKEN_FIRST if within == 0 => {
-            release(pool.header, pool.records, page, run(links));
-            Ok((run(links) as u32) << 12)
-        }
-        kind if kind <= FREE_FIRST => Err(Refusal::NotTaken),
-        _ => Err(Refusal::NotAStart),
+    sound(bytes)?.free(offset)
+}
+
+/// Serves request words under one validation, with a word for each answer.
+pub fn batch(bytes: &mut [u8], requests: &[u64], answers: &mut [u64]) -> Result<(), Refusal> {
+    if answers.len() < requests.len() {
+        return Err(Refusal::AnswersTooShort);
     }
+    if broken_rule(bytes) != 0 {
+        return Err(Refusal::NotSound);
+    }
+    let mut pool = sound(bytes)?;
+    words::serve(&mut pool, requests, answers, Pool::alloc, Pool::free);
+    Ok(())
 }
 
 /// The parts of a pool whose header is sound.
 #[inline]
 fn sound(bytes: &mut [u8]) -> Result<Pool<'_>, Refusal> {
     Pool::split(bytes, stated_pages).ok_or(Refusal::NotSound)
+}
+
+/// The calls on parts that are split once, for many of them.
+impl Pool<'_> {
+    #[inline(always)]
+    fn alloc(&mut self, size: u32) -> Result<u32, Refusal> {
+        if size > LARGEST_CHUNK {
+            return self.alloc_pages(size);
+        }
+        match self.alloc_chunk(class_of(size)) {
+            Some(offset) => Ok(offset),
+            None => self.alloc_pages(size),
+        }
+    }
+
+    /// As [`alloc_pages`].
+    #[inline(never)]
+    fn alloc_pages(&mut self, size: u32) -> Result<u32, Refusal> {
+        if size <= LARGEST_CHUNK {
+            self.alloc_page(class_of(size))
+        } else {
+            alloc_run(self.header, self.records, size)
+        }
+    }
+
+    #[inline(always)]
+    fn free(&mut self, offset: u32) -> Result<u32, Refusal> {
+        let page = (offset >> 12) as usize;
+        let within = offset % 4_096;
+        let Some([_, links]) = self.records.get(page) else {
+            return Err(Refusal::Outside);
+        };
+        let links = get(links);
+        match kind(links) {
+            CLASS_PAGE => self.free_chunk(page, links, within),
+            TAKEN_FIRST if within == 0 => {
+                release(self.header, self.records, page, run(links));
+                Ok((run(links) as u32) << 12)
+            }
+            kind if kind <= FREE_FIRST => Err(Refusal::NotTaken),
+            _ => Err(Refusal::NotAStart),
+        }
+    }
 }

@@ -6,7 +6,7 @@ mod calls;
 use calls::Calls;
 use reference::{Call, Refusal};
 use support::{class_record_at, length, Rng, LONGEST, PAGE, PER_PAGE};
-use yardstick::packed;
+use yardstick::{native, packed};
 
 type Format = fn(&mut [u8]) -> Result<u32, Refusal>;
 type Serve = fn(&mut [u8], u32) -> Result<u32, Refusal>;
@@ -148,4 +148,53 @@ fn unsound_pools_are_refused_and_kept() {
     assert_eq!(packed::alloc(&mut pool, 8), Err(Refusal::NotSound));
     assert_eq!(packed::free(&mut pool, 0), Err(Refusal::NotSound));
     assert!(pool == bytes);
+}
+
+/// The request word of a call, at times with a stray bit.
+fn word(calls: &mut Calls, call: Call) -> u64 {
+    let word = match call {
+        Call::Alloc(size) => u64::from(size),
+        Call::Free(offset) => 1 << 63 | u64::from(offset),
+    };
+    let stray = calls.rng.once_in(10);
+    word | u64::from(stray) << (32 + calls.rng.below(31))
+}
+
+#[test]
+fn batches_agree() {
+    for seed in 0..20 {
+        for pages in [1, 12, 256] {
+            let mut calls = Calls::new(seed, pages);
+            let mut bytes = calls.rng.bytes(length(pages));
+            packed::format(&mut bytes).expect("a length that holds pages");
+            let mut second = bytes.clone();
+            let mut native = native::Pool::new(pages as u16);
+            for _ in 0..20 {
+                let asked: Vec<Call> = (0..100).map(|_| calls.next()).collect();
+                let requests: Vec<u64> = asked.iter().map(|call| word(&mut calls, *call)).collect();
+                let mut answers = [(); 3].map(|()| [0; 100]);
+                let outcomes = [
+                    reference::batch(&mut second, &requests, &mut answers[0]),
+                    packed::batch(&mut bytes, &requests, &mut answers[1]),
+                    native.batch(&requests, &mut answers[2]),
+                ];
+                assert_eq!(outcomes, [Ok(()); 3]);
+                assert_eq!(answers[1], answers[0], "seed {seed}, {pages} pages");
+                assert_eq!(answers[2], answers[0], "seed {seed}, {pages} pages");
+                assert!(bytes == second, "seed {seed}, {pages} pages");
+                for (call, &answer) in asked.into_iter().zip(&answers[0]) {
+                    if answer >> 56 == 0 {
+                        calls.granted(call, answer as u32);
+                    }
+                }
+            }
+            let too_short = Err(Refusal::AnswersTooShort);
+            assert_eq!(packed::batch(&mut bytes, &[1], &mut []), too_short);
+            assert_eq!(native.batch(&[1], &mut []), too_short);
+            bytes[0] = 0;
+            assert_eq!(packed::batch(&mut bytes, &[1], &mut []), too_short);
+            let unsound = packed::batch(&mut bytes, &[], &mut []);
+            assert_eq!(unsound, Err(Refusal::NotSound));
+        }
+    }
 }

@@ -6,7 +6,7 @@ use crate::map::{give, give_to_words, take_from_words, take_lowest};
 use crate::Refusal;
 
 impl Pool {
-    #[inline]
+    #[inline(always)]
     pub(super) fn alloc_chunk(&mut self, class: usize) -> Result<u32, Refusal> {
         let counts = &mut self.classes[class];
         counts.asks = counts.asks.saturating_add(1);
@@ -29,7 +29,7 @@ impl Pool {
     }
 
     /// Cuts a free page into chunks for a class with an empty list.
-    #[inline]
+    #[inline(always)]
     fn cut_page(&mut self, class: usize) -> Result<u32, Refusal> {
         let Some(page) = self.cut_run(1) else {
             let counts = &mut self.classes[class];
@@ -51,7 +51,7 @@ impl Pool {
         Ok(u32::from(page) << 12 | OWN[class] << shift(class))
     }
 
-    #[inline]
+    #[inline(always)]
     pub(super) fn free_chunk(&mut self, page: u16, within: u32) -> Result<u32, Refusal> {
         let node = self.node(page);
         let class = usize::from(node.class);
@@ -77,7 +77,7 @@ impl Pool {
     }
 
     /// The map of a page of a class that nginx keeps in the page.
-    #[inline]
+    #[inline(always)]
     fn words(&mut self, page: u16, class: usize) -> &mut [u64] {
         &mut self.maps[usize::from(page) % 256][..map_words(class)]
     }

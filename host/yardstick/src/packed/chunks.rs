@@ -15,7 +15,7 @@ const COUNTS: u64 = (1 << FIRST_SHIFT) - 1;
 impl Pool<'_> {
     /// Takes the lowest free chunk of the first page on the class list; `None`
     /// when the list is empty.
-    #[inline]
+    #[inline(always)]
     pub fn alloc_chunk(&mut self, class: usize) -> Option<u32> {
         let [list, tallies] = &mut self.classes[class];
         let old = get(list);
@@ -64,7 +64,7 @@ impl Pool<'_> {
     }
 
     /// Gives back the chunk `within` bytes into a class page with these links.
-    #[inline]
+    #[inline(always)]
     pub fn free_chunk(&mut self, page: usize, links: u64, within: u32) -> Result<u32, Refusal> {
         let class = class(links);
         let chunk = within >> shift(class);
@@ -99,7 +99,7 @@ impl Pool<'_> {
 }
 
 /// Puts a page that was full, so has no links, before the first of its list.
-#[inline]
+#[inline(always)]
 fn link_first(records: &mut [Record], page: usize, links: u64, first: u64) {
     put(&mut records[page][1], links & !NEXT | first << NEXT_SHIFT);
     if first != NONE {
@@ -108,7 +108,7 @@ fn link_first(records: &mut [Record], page: usize, links: u64, first: u64) {
 }
 
 /// Takes the first page of a class list off it and answers the next one.
-#[inline]
+#[inline(always)]
 fn unlink_first(records: &mut [Record], page: usize) -> u64 {
     let [_, links] = &mut records[page];
     let next = next(get(links));

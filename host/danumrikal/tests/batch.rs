@@ -1,0 +1,346 @@
+//! Batches: the proved call against the second program, against single calls,
+//! and against itself cut in two. Outcome, every byte of the pool and every
+//! place for an answer are compared, whatever the pool and the words hold.
+//!
+//! The seeds are fixed. `DANUMRIKAL_TIMES=10` plays ten times as many batches.
+
+use danumrikal::{Answer, Offset, Pool, Refusal, Request};
+use reference::batch::{answer_word, read_request};
+use reference::{alloc_sound, batch, broken_rule, free_sound, Call};
+use support::{length, offset, page_at, Habit, Rng, PER_PAGE};
+
+/// A pool, request words, and what stands in the places for answers.
+#[derive(Clone, Debug, PartialEq, Eq)]
+struct Case {
+    pool: Vec<u8>,
+    requests: Vec<u64>,
+    answers: Vec<u64>,
+}
+
+/// Serves a batch and answers the word of its outcome.
+type Program = fn(&mut [u8], &[u64], &mut [u64]) -> u64;
+
+impl Case {
+    /// What the program answers, and pool and answers as it leaves them.
+    fn served(&self, program: Program) -> (u64, Case) {
+        let mut case = self.clone();
+        let outcome = program(&mut case.pool, &case.requests, &mut case.answers);
+        (outcome, case)
+    }
+
+    /// The same requests as two batches.
+    fn served_in_two(&self, program: Program, cut: usize) -> (u64, Case) {
+        let mut case = self.clone();
+        let (first, rest) = case.requests.split_at(cut);
+        let (before, after) = case.answers.split_at_mut(cut);
+        program(&mut case.pool, first, before);
+        let outcome = program(&mut case.pool, rest, after);
+        (outcome, case)
+    }
+
+    /// The same requests as single calls of the proved pool, as the rules say:
+    /// 11, then 3, then each word in turn.
+    fn served_singly(&self) -> (u64, Case) {
+        let mut case = self.clone();
+        if case.answers.len() < case.requests.len() {
+            return (11 << 56, case);
+        }
+        if Pool::new(&mut case.pool).check().is_err() {
+            return (3 << 56, case);
+        }
+        for (&request, answer) in case.requests.iter().zip(&mut case.answers) {
+            *answer = match read_request(request) {
+                Some(call) => single(&mut case.pool, call),
+                None => 8 << 56,
+            };
+        }
+        (0, case)
+    }
+}
+
+/// A single call of the proved pool.
+fn single(pool: &mut [u8], call: Call) -> u64 {
+    let mut pool = Pool::new(pool);
+    word(match call {
+        Call::Alloc(size) => pool.alloc(size).map(|offset| offset.0),
+        Call::Free(offset) => pool.free(Offset(offset)).map(|()| 0),
+    })
+}
+
+fn word(answer: Result<u32, Refusal>) -> u64 {
+    match answer {
+        Ok(value) => value.into(),
+        Err(refusal) => u64::from(refusal.number()) << 56,
+    }
+}
+
+fn proved(pool: &mut [u8], requests: &[u64], answers: &mut [u64]) -> u64 {
+    let requests: Vec<_> = requests.iter().copied().map(Request::from_word).collect();
+    let mut given: Vec<_> = answers.iter().copied().map(Answer::from_word).collect();
+    let outcome = Pool::new(pool).batch(&requests, &mut given);
+    for (place, answer) in answers.iter_mut().zip(given) {
+        *place = answer.word();
+    }
+    word(outcome.map(|()| 0))
+}
+
+fn second(pool: &mut [u8], requests: &[u64], answers: &mut [u64]) -> u64 {
+    answer_word(batch(pool, requests, answers).map(|()| 0))
+}
+
+/// Batches on one pool after the other, each of them as the last left it.
+struct Cases {
+    rng: Rng,
+    pool: Vec<u8>,
+    pages: usize,
+    habit: Habit,
+    live: Vec<u32>,
+}
+
+impl Cases {
+    fn new(seed: u64, pages: usize) -> Cases {
+        let mut rng = Rng::new(seed);
+        let tail = rng.below(PER_PAGE as u64) as usize;
+        let mut pool = rng.bytes(length(pages) + tail);
+        Pool::new(&mut pool)
+            .format()
+            .expect("a length that holds pages");
+        let habit = Habit::any(&mut rng);
+        let live = Vec::new();
+        Cases {
+            rng,
+            pool,
+            pages,
+            habit,
+            live,
+        }
+    }
+
+    fn next(&mut self) -> Case {
+        let mut pool = self.pool.clone();
+        let count = self.rng.below(60) as usize;
+        let requests: Vec<u64> = (0..count).map(|_| self.request(&mut pool)).collect();
+        let places = match self.rng.below(6) {
+            0 => self.rng.below(count as u64 + 1) as usize,
+            1 => count + self.rng.below(8) as usize,
+            _ => count,
+        };
+        let mut case = Case {
+            pool: self.pool.clone(),
+            requests,
+            answers: (0..places).map(|_| self.rng.word()).collect(),
+        };
+        if self.rng.once_in(5) {
+            let at = self.rng.below(page_at(self.pages, 0) as u64) as usize;
+            case.pool[at] ^= 1 << self.rng.below(8);
+        }
+        self.pool = pool;
+        case
+    }
+
+    /// A request, played on the pool so that later ones can free its block.
+    fn request(&mut self, pool: &mut [u8]) -> u64 {
+        let rng = &mut self.rng;
+        let stray = match rng.below(12) {
+            0 => 1 << (32 + rng.below(31)),
+            1 => rng.word(),
+            _ => 0,
+        };
+        let call = if rng.below(16) < self.habit.allocs {
+            u64::from(self.habit.size(rng, self.pages))
+        } else if !self.live.is_empty() && !rng.once_in(4) {
+            let at = rng.below(self.live.len() as u64) as usize;
+            1 << 63 | u64::from(self.live.swap_remove(at))
+        } else {
+            let near = self.live.last().copied();
+            1 << 63 | u64::from(offset(rng, self.pages, near))
+        };
+        let request = call | stray;
+        match read_request(request) {
+            Some(Call::Alloc(size)) => self.live.extend(alloc_sound(pool, size)),
+            Some(Call::Free(offset)) => {
+                let _ = free_sound(pool, offset);
+            }
+            None => {}
+        }
+        request
+    }
+}
+
+/// Whether the program serves the case as the second program does.
+fn differs(program: Program, case: &Case) -> bool {
+    case.served(program) != case.served(second)
+}
+
+/// How often each outcome came, and each kind of answer.
+#[derive(Debug, Default)]
+struct Seen {
+    done: usize,
+    too_short: usize,
+    unsound: usize,
+    requests: usize,
+    stray: usize,
+}
+
+fn play(seed: u64, pages: usize, batches: usize, seen: &mut Seen) {
+    let mut cases = Cases::new(seed, pages);
+    for number in 0..batches {
+        let case = cases.next();
+        let place = format!("seed {seed}, {pages} pages, batch {number}");
+        let (outcome, end) = case.served(proved);
+        let print = || -> String {
+            let words = case.requests.iter().copied().map(Request::from_word);
+            words.map(|request| format!("\n    {request}")).collect()
+        };
+        assert!(!differs(proved, &case), "{place}: second{}", print());
+        let alike = case.served_singly() == (outcome, end.clone());
+        assert!(alike, "{place}: single calls{}", print());
+        match outcome >> 56 {
+            0 => {
+                let cut = number % (case.requests.len() + 1);
+                let alike = case.served_in_two(proved, cut) == (outcome, end.clone());
+                assert!(alike, "{place}: cut in two at {cut}{}", print());
+                assert_eq!(broken_rule(&end.pool), 0, "{place}{}", print());
+                seen.done += 1;
+                seen.requests += case.requests.len();
+                let answered = end.answers.iter().take(case.requests.len());
+                seen.stray += answered.filter(|&&answer| answer == 8 << 56).count();
+            }
+            number => {
+                assert!(end == case, "{place}: refused and changed{}", print());
+                match number {
+                    3 => seen.unsound += 1,
+                    11 => seen.too_short += 1,
+                    _ => panic!("{place}: refused with {number}"),
+                }
+            }
+        }
+    }
+}
+
+fn times() -> u64 {
+    match std::env::var("DANUMRIKAL_TIMES") {
+        Ok(times) => times.parse().expect("DANUMRIKAL_TIMES is a number"),
+        Err(_) => 1,
+    }
+}
+
+#[test]
+fn batches_in_small_pools() {
+    let mut seen = Seen::default();
+    for seed in 0..60 * times() {
+        for pages in [1, 2, 3, 12] {
+            play(seed, pages, 25, &mut seen);
+        }
+    }
+    println!("{seen:?}");
+    assert!(seen.done > 3_000 && seen.requests > 90_000 && seen.stray > 9_000);
+    assert!(seen.too_short > 500 && seen.unsound > 500);
+}
+
+#[test]
+fn batches_in_large_pools() {
+    let mut seen = Seen::default();
+    for seed in 0..4 * times() {
+        for pages in [64, 256] {
+            play(seed, pages, 25, &mut seen);
+        }
+    }
+    println!("{seen:?}");
+    assert!(seen.done > 100 && seen.too_short > 10 && seen.unsound > 10);
+}
+
+#[test]
+fn an_empty_batch_is_refused_on_an_unsound_pool() {
+    let mut pool = vec![0; length(1)];
+    assert_eq!(
+        Pool::new(&mut pool).batch(&[], &mut []),
+        Err(Refusal::NotSound)
+    );
+    Pool::new(&mut pool)
+        .format()
+        .expect("a length that holds pages");
+    assert_eq!(Pool::new(&mut pool).batch(&[], &mut []), Ok(()));
+}
+
+#[test]
+fn too_few_places_come_before_an_unsound_pool() {
+    let refused = Pool::new(&mut []).batch(&[Request::alloc(1)], &mut []);
+    assert_eq!(refused, Err(Refusal::AnswersTooShort));
+}
+
+/// Programs with one fault each: the second program's batch, done wrong.
+const DOUBLES: [(&str, Program); 7] = [
+    ("tries 3 before 11", |pool, requests, answers| {
+        if broken_rule(pool) != 0 {
+            return 3 << 56;
+        }
+        second(pool, requests, answers)
+    }),
+    ("ends at a stray word", |pool, requests, answers| {
+        let stray = requests
+            .iter()
+            .position(|&word| read_request(word).is_none());
+        let served = stray.map_or(requests.len(), |at| at + 1);
+        if answers.len() < requests.len() {
+            return 11 << 56;
+        }
+        second(pool, &requests[..served], answers)
+    }),
+    ("serves a stray word", |pool, requests, answers| {
+        let bits = 1 << 63 | u64::from(u32::MAX);
+        let tidy: Vec<_> = requests.iter().map(|word| word & bits).collect();
+        second(pool, &tidy, answers)
+    }),
+    ("clears answers beyond", |pool, requests, answers| {
+        let outcome = second(pool, requests, answers);
+        if outcome == 0 {
+            answers[requests.len()..].fill(0);
+        }
+        outcome
+    }),
+    ("never validates", |pool, requests, answers| {
+        if answers.len() < requests.len() {
+            return 11 << 56;
+        }
+        let serve = |pool: &mut [u8], word| match read_request(word) {
+            Some(Call::Alloc(size)) => alloc_sound(pool, size),
+            Some(Call::Free(offset)) => free_sound(pool, offset).map(|()| 0),
+            None => Err(reference::Refusal::Unreadable),
+        };
+        for (&word, answer) in requests.iter().zip(answers) {
+            *answer = answer_word(serve(pool, word));
+        }
+        0
+    }),
+    ("answers 7 to a stray word", |pool, requests, answers| {
+        let outcome = second(pool, requests, answers);
+        let stray = requests
+            .iter()
+            .zip(answers)
+            .filter(|(_, answer)| **answer == 8 << 56);
+        if outcome == 0 {
+            stray.for_each(|(_, answer)| *answer = 7 << 56);
+        }
+        outcome
+    }),
+    (
+        "serves what it has places for",
+        |pool, requests, answers| {
+            let served = requests.len().min(answers.len());
+            second(pool, &requests[..served], answers)
+        },
+    ),
+];
+
+#[test]
+fn every_double_is_caught() {
+    for (name, double) in DOUBLES {
+        let mut cases = (0..100).flat_map(|seed| {
+            let mut cases = Cases::new(seed, 3);
+            (0..5).map(move |_| cases.next())
+        });
+        let caught = cases.any(|case| differs(double, &case));
+        assert!(caught, "a program that {name} was not found out");
+    }
+}
