@@ -35,15 +35,33 @@ static uint32_t keep(const char *what, const char *text, uint32_t size)
     return offset;
 }
 
-static void release(const char *what, uint32_t offset)
+/* Tells what became of a free. */
+static void tell(const char *what, dnk_answer answer)
 {
-    dnk_answer answer = dnk_free(pool, sizeof pool, offset);
     enum dnk_refusal refusal = dnk_refusal_of(answer);
     if (refusal == DNK_GRANTED) {
         printf("%s: %" PRIu32 " bytes back\n", what, dnk_value_of(answer));
     } else {
         printf("%s: %s (%d)\n", what, dnk_refusal_name(refusal), refusal);
     }
+}
+
+static void release(const char *what, uint32_t offset)
+{
+    tell(what, dnk_free(pool, sizeof pool, offset));
+}
+
+/* At dawn both blocks go, and a dark frame takes their place: three calls under one validation. */
+static void dawn(uint32_t pointing, uint32_t seconds)
+{
+    const dnk_request requests[] = {dnk_to_free(pointing), dnk_to_free(seconds), dnk_to_alloc(20000)};
+    dnk_answer answers[3];
+    if (dnk_refusal_of(dnk_batch(pool, sizeof pool, requests, 3, answers, 3)) != DNK_GRANTED) {
+        exit(EXIT_FAILURE);
+    }
+    tell("pointing block", answers[0]);
+    tell("leap second table", answers[1]);
+    printf("dark frame: at %" PRIu32 "\n", dnk_value_of(answers[2]));
 }
 
 int main(void)
@@ -56,6 +74,7 @@ int main(void)
     release("star list", stars);
     printf("pointing block: %s\n", text_at(pointing));
     printf("leap second table: %s\n", text_at(seconds));
+    dawn(pointing, seconds);
     printf("records: %s\n", dnk_validate(pool, sizeof pool) == 0 ? "sound" : "unsound");
     return EXIT_SUCCESS;
 }

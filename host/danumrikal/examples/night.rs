@@ -6,7 +6,7 @@
 //! cargo run --offline --manifest-path host/Cargo.toml -p danumrikal --example night
 //! ```
 
-use danumrikal::{length, Offset, Pool, Refusal};
+use danumrikal::{length, Answer, Offset, Pool, Refusal, Request};
 
 /// Takes a block and keeps a text in it.
 fn keep(pool: &mut Pool, what: &str, text: &str, size: u32) -> Result<Offset, Refusal> {
@@ -17,11 +17,32 @@ fn keep(pool: &mut Pool, what: &str, text: &str, size: u32) -> Result<Offset, Re
     Ok(offset)
 }
 
-fn release(pool: &mut Pool, what: &str, offset: Offset) {
-    match pool.free(offset) {
+/// Tells what became of a free.
+fn tell(what: &str, answer: Result<u32, Refusal>) {
+    match answer {
         Ok(bytes) => println!("{what}: {bytes} bytes back"),
         Err(refusal) => println!("{what}: {refusal}"),
     }
+}
+
+fn release(pool: &mut Pool, what: &str, offset: Offset) {
+    tell(what, pool.free(offset));
+}
+
+/// At dawn both blocks go, and a dark frame takes their place: three calls under
+/// one validation.
+fn dawn(pool: &mut Pool, pointing: Offset, seconds: Offset) -> Result<(), Refusal> {
+    let requests = [
+        Request::free(pointing),
+        Request::free(seconds),
+        Request::alloc(20_000),
+    ];
+    let mut answers = [Answer::default(); 3];
+    pool.batch(&requests, &mut answers)?;
+    tell("pointing block", answers[0].value());
+    tell("leap second table", answers[1].value());
+    println!("dark frame: at {}", answers[2].block()?);
+    Ok(())
 }
 
 fn print(pool: &Pool, what: &str, offset: Offset, size: usize) {
@@ -42,6 +63,7 @@ fn main() -> Result<(), Refusal> {
     release(&mut pool, "star list", stars);
     print(&pool, "pointing block", pointing, angles.len());
     print(&pool, "leap second table", seconds, last.len());
+    dawn(&mut pool, pointing, seconds)?;
     match pool.check() {
         Ok(()) => println!("records: sound"),
         Err(rule) => println!("records: broken rule {rule}"),

@@ -80,8 +80,8 @@ impl fmt::Display for Request {
 pub struct Answer(u64);
 
 impl Answer {
-    /// What was granted: the offset of the block that was taken, 0 for one that
-    /// was given back.
+    /// What was granted: the offset of the block that was taken, or the bytes of
+    /// the one that was given back.
     ///
     /// # Errors
     ///

@@ -24,7 +24,7 @@ pub fn batch(bytes: &mut [u8], requests: &[u64], answers: &mut [u64]) -> Result<
 fn serve(bytes: &mut [u8], request: u64) -> Result<u32, Refusal> {
     match read_request(request) {
         Some(Call::Alloc(size)) => alloc_sound(bytes, size),
-        Some(Call::Free(offset)) => free_sound(bytes, offset).map(|()| 0),
+        Some(Call::Free(offset)) => free_sound(bytes, offset),
         None => Err(Refusal::Unreadable),
     }
 }
