@@ -82,16 +82,16 @@ module _ (w : ℕ) (s : List ℕ) (x : ℕ) (word : ℕ) (u : List ℕ) where
   unfolding replyTo leftBy
   reads q e p = rw e p
 
-  pub take-read : x / 4294967296 ≡ 0 → (word ≡ wordOf (answered w s (Alloc (x % 4294967296)))) × (u ≡ after w s (Alloc (x % 4294967296))) →
+  pub alloc-read : x / 4294967296 ≡ 0 → (word ≡ wordOf (answered w s (Alloc (x % 4294967296)))) × (u ≡ after w s (Alloc (x % 4294967296))) →
       (word ≡ replyTo w s x) × (u ≡ leftBy w s x)
   unfolding callIn
-  take-read e = reads (some (Alloc (x % 4294967296))) (pick-yes _ _ _ (eq-eqb _ _ e))
+  alloc-read e = reads (some (Alloc (x % 4294967296))) (pick-yes _ _ _ (eq-eqb _ _ e))
 
   module _ (n : x / 4294967296 ≢ 0) where
-    pub give-read : x / 4294967296 ≡ 2147483648 → (word ≡ wordOf (answered w s (Free (x % 4294967296)))) × (u ≡ after w s (Free (x % 4294967296))) →
+    pub free-read : x / 4294967296 ≡ 2147483648 → (word ≡ wordOf (answered w s (Free (x % 4294967296)))) × (u ≡ after w s (Free (x % 4294967296))) →
         (word ≡ replyTo w s x) × (u ≡ leftBy w s x)
     unfolding callIn
-    give-read e = reads (some (Free (x % 4294967296))) (pick-no _ _ _ (ne-eqb _ _ n) ∙ pick-yes _ _ _ (eq-eqb _ _ e))
+    free-read e = reads (some (Free (x % 4294967296))) (pick-no _ _ _ (ne-eqb _ _ n) ∙ pick-yes _ _ _ (eq-eqb _ _ e))
 
     pub stray-read : x / 4294967296 ≢ 2147483648 → word ≡ wordOf (refused Unreadable) → u ≡ s → (word ≡ replyTo w s x) × (u ≡ leftBy w s x)
     unfolding callIn

@@ -63,7 +63,7 @@ fn single(pool: &mut [u8], call: Call) -> u64 {
     let mut pool = Pool::new(pool);
     word(match call {
         Call::Alloc(size) => pool.alloc(size).map(|offset| offset.0),
-        Call::Free(offset) => pool.free(Offset(offset)).map(|()| 0),
+        Call::Free(offset) => pool.free(Offset(offset)),
     })
 }
 
@@ -305,7 +305,7 @@ const DOUBLES: [(&str, Program); 7] = [
         }
         let serve = |pool: &mut [u8], word| match read_request(word) {
             Some(Call::Alloc(size)) => alloc_sound(pool, size),
-            Some(Call::Free(offset)) => free_sound(pool, offset).map(|()| 0),
+            Some(Call::Free(offset)) => free_sound(pool, offset),
             None => Err(reference::Refusal::Unreadable),
         };
         for (&word, answer) in requests.iter().zip(answers) {

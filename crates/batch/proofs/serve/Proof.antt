@@ -1,29 +1,29 @@
 use mathlib.Core.Path.{refl}
 use borrow.Author.Needs.{needs}
-use Rattle.batch.proofs.Serving.{take-read, give-read, stray-read}
+use Rattle.batch.proofs.Serving.{alloc-read, free-read, stray-read}
 use Rattle.batch.proofs.serve.Statement.{statement}
 use Rattle.batch.proofs.serve.Tie as tie
 
 cast-low : tie.Need-cast-low
 cast-low c = search needs
 
-take-requires : tie.Need-take-requires
-take-requires c κs = search needs
+serve-alloc-requires : tie.Need-serve-alloc-requires
+serve-alloc-requires c κs = search needs
 
 same-length : tie.Need-same-length
 same-length c = search needs
 
 returns : tie.Need-returns
-returns c = let b = c .before .before .before .before .before .before .args in take-read (b .w) (b .pool .now) (b .word) _ _ (c .before .before .before .before .if1 .taken) (c .before .before .take .ensures)
+returns c = let b = c .before .before .before .before .before .before .args in alloc-read (b .w) (b .pool .now) (b .word) _ _ (c .before .before .before .before .if1 .taken) (c .before .before .serve-alloc .ensures)
 
-give-requires : tie.Need-give-requires
-give-requires c κs = search needs
+serve-free-requires : tie.Need-serve-free-requires
+serve-free-requires c κs = search needs
 
 same-length-2 : tie.Need-same-length-2
 same-length-2 c = search needs
 
 returns-2 : tie.Need-returns-2
-returns-2 c = let b = c .before .before .before .before .before .before .before .args in give-read (b .w) (b .pool .now) (b .word) _ _ (c .before .before .before .before .before .if1 .left) (c .before .before .before .before .if2 .taken) (c .before .before .give .ensures)
+returns-2 c = let b = c .before .before .before .before .before .before .before .args in free-read (b .w) (b .pool .now) (b .word) _ _ (c .before .before .before .before .before .if1 .left) (c .before .before .before .before .if2 .taken) (c .before .before .serve-free .ensures)
 
 refusal-word-requires : tie.Need-refusal-word-requires
 refusal-word-requires c κs = search needs
@@ -36,10 +36,10 @@ serve-spec =
     tie.close
     (tie.spec
     cast-low
-    take-requires
+    serve-alloc-requires
     same-length
     returns
-    give-requires
+    serve-free-requires
     same-length-2
     returns-2
     refusal-word-requires

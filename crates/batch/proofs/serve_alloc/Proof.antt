@@ -1,7 +1,7 @@
 use borrow.Author.Needs.{needs}
 use Rattle.batch.proofs.Serving.{alloc-served}
-use Rattle.batch.proofs.take.Statement.{statement}
-use Rattle.batch.proofs.take.Tie as tie
+use Rattle.batch.proofs.serve_alloc.Statement.{statement}
+use Rattle.batch.proofs.serve_alloc.Tie as tie
 
 alloc-sound-requires : tie.Need-alloc-sound-requires
 alloc-sound-requires c κs = search needs
@@ -18,5 +18,5 @@ returns c =
     let known = done .before .before .before in
     alloc-served (known .pre) (c .allocated-word .ensures) (known .args .size) (done .alloc-sound .ensures .0) (done .alloc-sound .ensures .1)
 
-pub take-spec : {M : Type 1} → statement M
-take-spec = tie.close (tie.spec alloc-sound-requires allocated-word-requires same-length returns)
+pub serve-alloc-spec : {M : Type 1} → statement M
+serve-alloc-spec = tie.close (tie.spec alloc-sound-requires allocated-word-requires same-length returns)

@@ -1,7 +1,7 @@
 use borrow.Author.Needs.{needs}
 use Rattle.batch.proofs.Serving.{free-served}
-use Rattle.batch.proofs.give.Statement.{statement}
-use Rattle.batch.proofs.give.Tie as tie
+use Rattle.batch.proofs.serve_free.Statement.{statement}
+use Rattle.batch.proofs.serve_free.Tie as tie
 
 free-sound-requires : tie.Need-free-sound-requires
 free-sound-requires c κs = search needs
@@ -18,5 +18,5 @@ returns c =
     let known = done .before .before .before in
     free-served (known .pre) (c .freed-word .ensures) (known .args .offset) (done .free-sound .ensures .0) (done .free-sound .ensures .1)
 
-pub give-spec : {M : Type 1} → statement M
-give-spec = tie.close (tie.spec free-sound-requires freed-word-requires same-length returns)
+pub serve-free-spec : {M : Type 1} → statement M
+serve-free-spec = tie.close (tie.spec free-sound-requires freed-word-requires same-length returns)
