@@ -5,6 +5,8 @@ use records::ClassRecord;
 use records::MOST_ASKS;
 ghost use mathlib.Core.Path.{_≡_};
 ghost use Prim.Native.Nat.{_+_, _-_, _%_};
+ghost use Rattle.words.specs.Word.{word, setWord};
+ghost use Rattle.records.specs.Class.{packCounts, packTally, unpackClass};
 ghost use Rattle.model.specs.Calls.{raise};
 ghost use Rattle.classes.specs.Mirror.{chunkAsked, chunkUsed, chunkBack, countUsed, countPageUsed, countBack, countPageBack, chunkRefused};
 
@@ -46,11 +48,64 @@ fn chunk_back(r: ClassRecord) -> ClassRecord
     records::used_to(r, minus(r.used, 1))
 }
 
+// ---- one chunk more or less, in the words that change: `used` is the middle 24 bits of the counts, `reqs` the upper half of the tallies
+
+fn used_more(v: u64) -> u64
+    ensures { λ r. ⌜ r ≡ packCounts (chunkUsed (unpackClass v 0)) ⌝ }
+{
+    if v / 16777216 % 16777216 == 16777215 {
+        v - 281474959933440
+    } else {
+        v + 16777216
+    }
+}
+
+fn used_less(v: u64) -> u64
+    ensures { λ r. ⌜ r ≡ packCounts (chunkBack (unpackClass v 0)) ⌝ }
+{
+    if v / 16777216 % 16777216 == 0 {
+        v
+    } else {
+        v - 16777216
+    }
+}
+
+fn asks_more(v: u64) -> u64
+    ensures { λ r. ⌜ r ≡ packTally (chunkAsked (unpackClass 0 v)) ⌝ }
+{
+    if v < 18446744069414584320 {
+        v + 4294967296
+    } else {
+        v
+    }
+}
+
+fn count_one_used(pool: &mut [u8], k: usize)
+    ensures { λ _. ⌜ now (pool .exit) ≡ setWord (now (pool .entry)) k (packCounts (chunkUsed (unpackClass (word (now (pool .entry)) k) 0))) ⌝ }
+{
+    let v = cells::get_word(pool, k);
+    cells::put_word(pool, k, used_more(v));
+}
+
+fn count_one_back(pool: &mut [u8], k: usize)
+    ensures { λ _. ⌜ now (pool .exit) ≡ setWord (now (pool .entry)) k (packCounts (chunkBack (unpackClass (word (now (pool .entry)) k) 0))) ⌝ }
+{
+    let v = cells::get_word(pool, k);
+    cells::put_word(pool, k, used_less(v));
+}
+
+fn count_one_ask(pool: &mut [u8], k: usize)
+    ensures { λ _. ⌜ now (pool .exit) ≡ setWord (now (pool .entry)) k (packTally (chunkAsked (unpackClass 0 (word (now (pool .entry)) k)))) ⌝ }
+{
+    let v = cells::get_word(pool, k);
+    cells::put_word(pool, k, asks_more(v));
+}
+
 pub fn count_used(pool: &mut [u8], w: u8, c: u8)
     ensures { λ _. ⌜ now (pool .exit) ≡ countUsed w (now (pool .entry)) c ⌝ }
 {
-    let r = record_class::get_class(pool, w, c);
-    record_class::put_class(pool, w, c, chunk_used(r));
+    count_one_used(pool, records::place(1, w, c as u16));
+    count_one_ask(pool, records::place(2, w, c as u16));
 }
 
 pub fn count_page_used(pool: &mut [u8], w: u8, c: u8)
@@ -64,8 +119,7 @@ pub fn count_page_used(pool: &mut [u8], w: u8, c: u8)
 pub fn count_back(pool: &mut [u8], w: u8, c: u8)
     ensures { λ _. ⌜ now (pool .exit) ≡ countBack w (now (pool .entry)) c ⌝ }
 {
-    let r = record_class::get_class(pool, w, c);
-    record_class::put_class(pool, w, c, chunk_back(r));
+    count_one_back(pool, records::place(1, w, c as u16));
 }
 
 pub fn count_page_back(pool: &mut [u8], w: u8, c: u8)
