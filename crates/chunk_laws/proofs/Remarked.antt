@@ -160,11 +160,11 @@ module _ {w : ℕ} {s : List ℕ} {m : State} {p c : ℕ} {k : ℕ → Bool} (H 
   pub full-told : isFull (draw w s m) (mapWord w P p c) c ≡ not (hasClear c k)
   full-told = full-is (draw w s m) bytes (mapWord w P p c) c in-pool k mark-told (page-ok .past-clear)
 
-  pub last-free-told : (i : ℕ) → k i ≡ false → lastFree (draw w s m) (mapWord w P p c) c i ≡ not (hasClear c (upd k i true))
+  pub last-free-told : (i : ℕ) → i < chunks c → k i ≡ false → lastFree (draw w s m) (mapWord w P p c) c i ≡ not (hasClear c (upd k i true))
   last-free-told i = last-free-is (draw w s m) bytes (mapWord w P p c) c in-pool k mark-told (page-ok .past-clear) i
 
   pub last-taken-told : (i : ℕ) → own c ≤ i → i < chunks c → k i ≡ true → lastTaken (draw w s m) (mapWord w P p c) c i ≡ not (hasTaken c (upd k i false))
-  last-taken-told i o l t = last-taken-is (draw w s m) bytes (mapWord w P p c) c in-pool k mark-told (page-ok .past-clear) i o l t (page-ok .own-set)
+  last-taken-told i o l t = last-taken-is (draw w s m) bytes (mapWord w P p c) c in-pool k mark-told (page-ok .past-clear) i l o t (page-ok .own-set)
 
   -- ---- the page leaves its list
 

@@ -100,7 +100,7 @@ module _ {w : ℕ} {s : List ℕ} {m : State} {p c : ℕ} {k : ℕ → Bool} (H 
   -- ---- the lists
 
   last : (b : Bool) → hasClear c k′ ≡ b → lastFree (draw w s m) (mapWord w P p c) c i ≡ not b
-  last b h = remarked.last-free-told H i (clear .1) ∙ ap not h
+  last b h = remarked.last-free-told H i (clear .0) (clear .1) ∙ ap not h
 
   stays : hasClear c k′ ≡ true → fullLeaves w (draw w s m) c p (lastFree (draw w s m) (mapWord w P p c) c i) ≡ paint w P (midway m (n l)) S
   unfolding fullLeaves pick

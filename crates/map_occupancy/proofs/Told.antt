@@ -20,7 +20,7 @@ use Rattle.maps.proofs.Words.{word-marks}
 use Rattle.model.specs.Classes.{chunks, own, hasClear, hasTaken}
 use Rattle.model.proofs.Classes.{none-taken, some-taken, large-chunks}
 use Rattle.map_count.specs.Mirror.{mapBits}
-use Rattle.map_occupancy.specs.Mirror.{marksAre, fullMarks, ownMarks, isFull, lastFree, lastTaken}
+use Rattle.map_occupancy.specs.Mirror.{marksAre, fullMarks, ownMarks, bitFor, isFull, lastFree, lastTaken}
 use Rattle.map_occupancy.proofs.Words.{whole-words}
 
 module _ (s : List ℕ) (B : Bytes s) (k c : ℕ) (inside : k + mapBits c / 64 ≤ length s / 8) (m : ℕ → Bool)
@@ -76,13 +76,18 @@ module _ (s : List ℕ) (B : Bytes s) (k c : ℕ) (inside : k + mapBits c / 64 �
         full-in : (b : ℕ) → b < chunks c → fullMarks c b ≡ true
         full-in b l = unfold fullMarks in lt-ltb b (chunks c) l
 
-    module _ (i : ℕ) where
+    module _ (i : ℕ) (inside-page : i < chunks c) where
+      own-bit : bitFor c i ≡ i
+      unfolding bitFor pick
+      own-bit = ⊎-elim (λ (h : c < 3). rw (lt-ltb c 3 h)) (λ (h : 3 ≤ c). rw (le-ltb c 3 h) (omega (arith, large-chunks c h))) (lt? c 3)
+
       pub last-free-is : m i ≡ false → lastFree s k c i ≡ not (hasClear c (upd m i true))
       unfolding lastFree
       last-free-is clear =
-          same-test _ _
+          rw own-bit
+          (same-test _ _
           (λ h. ap not (none-clear (upd m i true) (λ b l. set b l (are (upd (fullMarks c) i false) h b (chunk-bit b l)) (eq? b i))))
-          (λ h. those (upd (fullMarks c) i false) (λ b l. same b (not-true _ h) (eq? b i)))
+          (λ h. those (upd (fullMarks c) i false) (λ b l. same b (not-true _ h) (eq? b i))))
         where
           set : (b : ℕ) → b < chunks c → m b ≡ upd (fullMarks c) i false b → (b ≡ i) ⊎ (b ≢ i) → upd m i true b ≡ true
           set b l e (inl z) = rw z (upd-same m i true)
@@ -93,13 +98,14 @@ module _ (s : List ℕ) (B : Bytes s) (k c : ℕ) (inside : k + mapBits c / 64 �
           same b h (inr z) =
               as-full (upd m i true) h b (lt? b (chunks c)) (sym (upd-other m i true b z)) ∙ sym (upd-other (fullMarks c) i false b z)
 
-      pub last-taken-is : own c ≤ i → i < chunks c → m i ≡ true → ((b : ℕ) → b < own c → m b ≡ true) → lastTaken s k c i ≡ not (hasTaken c (upd m i false))
+      pub last-taken-is : own c ≤ i → m i ≡ true → ((b : ℕ) → b < own c → m b ≡ true) → lastTaken s k c i ≡ not (hasTaken c (upd m i false))
       unfolding lastTaken
-      last-taken-is o l set owns =
-          same-test _ _
+      last-taken-is o set owns =
+          rw own-bit
+          (same-test _ _
           (λ h. ap not (decided _ (λ t.
           let (b, x, y, z) = some-taken c (upd m i false) t in clash z (clear b x (are (upd (ownMarks c) i true) h b (chunk-bit b y)) (eq? b i)))))
-          (λ h. those (upd (ownMarks c) i true) (λ b a. same b (not-true _ h) (eq? b i) (lt? b (own c)) (lt? b (chunks c))))
+          (λ h. those (upd (ownMarks c) i true) (λ b a. same b (not-true _ h) (eq? b i) (lt? b (own c)) (lt? b (chunks c)))))
         where
           clear : (b : ℕ) → own c ≤ b → m b ≡ upd (ownMarks c) i true b → (b ≡ i) ⊎ (b ≢ i) → upd m i false b ≡ false
           clear b x e (inl z) = rw z (upd-same m i false)

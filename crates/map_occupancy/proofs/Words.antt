@@ -22,7 +22,7 @@ use Rattle.model.specs.Classes.{chunks, own}
 use Rattle.map_count.specs.Mirror.{mapBits}
 use Rattle.classes.specs.Mirror.{ownWord}
 use Rattle.classes.proofs.Numbers.{chunks-past, chunks-512, own-past, own-small}
-use Rattle.map_occupancy.specs.Mirror.{marksAre, fullMarks, ownMarks, isFull, lastFree, lastTaken, expected, wordsAre}
+use Rattle.map_occupancy.specs.Mirror.{marksAre, fullMarks, ownMarks, isFull, lastFree, lastTaken, bitFor, expected, wordsAre}
 
 -- ---- the words of the classes, by tables; 9 stands for all past 8
 
@@ -44,11 +44,12 @@ past-9 c h = sym (chunks-past c h) ∙ chunks-past 9 (omega arith)
 past-3 : (c : ℕ) → 3 ≤ c → own c ≡ own 3
 past-3 c h = sym (own-past c h) ∙ own-past 3 (omega arith)
 
-full-few : (c k : ℕ) → c < 10 → k ≡ pick (ltb (chunks c - 1) 63) (chunks c - 1) 63 → 18446744073709551615 - 9223372036854775807 / 2 ^ k ≡ bitsOf (fullMarks c) 64
-unfolding any least chunks fullMarks bitsOf pick
-full-few c k h e =
+full-few : (c : ℕ) → 3 ≤ c → c < 10 → 18446744073709551615 - 9223372036854775807 / 2 ^ (chunks c - 1) ≡ bitsOf (fullMarks c) 64
+unfolding any least chunks fullMarks bitsOf
+full-few c h l =
+    let e : c - 3 + 3 ≡ c = omega arith in
     rw e
-    (table (λ x. 18446744073709551615 - 9223372036854775807 / 2 ^ pick (ltb (chunks x - 1) 63) (chunks x - 1) 63) (λ x. bitsOf (fullMarks x) 64) 10 refl c h)
+    at (table (λ x. 18446744073709551615 - 9223372036854775807 / 2 ^ (chunks (x + 3) - 1)) (λ x. bitsOf (fullMarks (x + 3)) 64) 7 refl (c - 3) (omega arith))
 
 free-few : (c r : ℕ) → c < 10 → r < 64 → bitAnd (bitsOf (fullMarks c) 64) (18446744073709551615 - 9223372036854775808 / 2 ^ r) ≡ bitsOf (upd (fullMarks c) r false) 64
 unfolding any least chunks fullMarks bitsOf upd
@@ -59,20 +60,25 @@ taken-few : (c r : ℕ) → c < 4 → r < 64 → bitOr (ownWord c) (922337203685
 unfolding any least own ownMarks ownWord bitsOf upd
 taken-few c r h l = pairs (λ c r. bitOr (ownWord c) (9223372036854775808 / 2 ^ r)) (λ c r. bitsOf (upd (ownMarks c) r true) 64) 4 refl c r h l
 
+-- all of a word but one mark, and one mark alone
+but-one : (r : ℕ) → r < 64 → 18446744073709551615 - 9223372036854775808 / 2 ^ r ≡ bitAnd 18446744073709551615 (18446744073709551615 - 9223372036854775808 / 2 ^ r)
+unfolding any least
+but-one r l =
+    table (λ r. 18446744073709551615 - 9223372036854775808 / 2 ^ r) (λ r. bitAnd 18446744073709551615 (18446744073709551615 - 9223372036854775808 / 2 ^ r)) 64 refl r l
+
+one-mark : (r : ℕ) → r < 64 → 9223372036854775808 / 2 ^ r ≡ bitOr 0 (9223372036854775808 / 2 ^ r)
+unfolding any least
+one-mark r l = table (λ r. 9223372036854775808 / 2 ^ r) (λ r. bitOr 0 (9223372036854775808 / 2 ^ r)) 64 refl r l
+
 module _ (c : ℕ) where
   -- the shift that the code makes
-  pub full-word : (k : ℕ) → (chunks c - 1 ≤ 63 → k ≡ chunks c - 1) × (63 ≤ chunks c - 1 → k ≡ 63) × (k ≤ 63)
-      → 18446744073709551615 - 9223372036854775807 / 2 ^ k ≡ bitsOf (fullMarks c) 64
-  unfolding fullMarks pick bitsOf
-  full-word k h = go (lt? c 10) (lt? (chunks c - 1) 63)
-    where
-      go : (c < 10) ⊎ (10 ≤ c) → (chunks c - 1 < 63) ⊎ (63 ≤ chunks c - 1) → 18446744073709551615 - 9223372036854775807 / 2 ^ k ≡ bitsOf (fullMarks c) 64
-      go (inl l) (inl a) = full-few c k l (h .0 (omega arith) ∙ rw (lt-ltb (chunks c - 1) 63 a))
-      go (inl l) (inr a) = full-few c k l (h .1 a ∙ rw (le-ltb (chunks c - 1) 63 a))
-      go (inr l) a =
-          let e : chunks c ≡ chunks 9 = past-9 c (omega arith) in
-          let z : k ≡ chunks 9 - 1 = h .0 (omega (arith, chunks-past 9 (omega arith))) ∙ ap (λ (x : ℕ). x - 1) e in
-          rw e (full-few 9 k (omega arith) (z ∙ rw (lt-ltb (chunks 9 - 1) 63 (omega (arith, chunks-past 9 (omega arith))))))
+  pub full-word : (k : ℕ) → 3 ≤ c → k ≡ chunks c - 1 → 18446744073709551615 - 9223372036854775807 / 2 ^ k ≡ bitsOf (fullMarks c) 64
+  unfolding fullMarks bitsOf
+  full-word k h e = rw e (⊎-elim (λ (l : c < 10). full-few c h l) (λ (l : 10 ≤ c). rw (past-9 c (omega arith)) (full-few 9 (omega arith) (omega arith))) (lt? c 10))
+
+  pub full-paged : c < 3 → 18446744073709551615 ≡ bitsOf (fullMarks c) 64
+  unfolding any least chunks fullMarks bitsOf
+  full-paged l = table (λ x. 18446744073709551615) (λ x. bitsOf (fullMarks x) 64) 3 refl c l
 
   pub free-word : (r : ℕ) → r < 64 → bitAnd (bitsOf (fullMarks c) 64) (18446744073709551615 - 9223372036854775808 / 2 ^ r) ≡ bitsOf (upd (fullMarks c) r false) 64
   unfolding fullMarks bitsOf chunks upd
@@ -126,6 +132,26 @@ module _ (c : ℕ) where
       go : (c < 3) ⊎ (3 ≤ c) → 64 * (pick (ltb c 3) (chunks c) 64 / 64) ≡ pick (ltb c 3) (chunks c) 64
       go (inl l) = rw (lt-ltb c 3 l) (table (λ x. 64 * (chunks x / 64)) chunks 3 (unfold any least in refl) c l)
       go (inr l) = rw (le-ltb c 3 l)
+
+  pub words-paged : c < 3 → 8 / 2 ^ c ≡ mapBits c / 64
+  unfolding any least mapBits pick chunks
+  words-paged l = table (λ x. 8 / 2 ^ x) (λ x. mapBits x / 64) 3 refl c l
+
+  words-recorded : 3 ≤ c → mapBits c / 64 ≡ 1
+  unfolding mapBits pick
+  words-recorded l = rw (le-ltb c 3 l)
+
+  bit-paged : (i : ℕ) → c < 3 → bitFor c i ≡ i
+  unfolding bitFor pick
+  bit-paged i l = rw (lt-ltb c 3 l)
+
+  bit-recorded : (i : ℕ) → 3 ≤ c → bitFor c i ≡ i % 64
+  unfolding bitFor pick
+  bit-recorded i l = rw (le-ltb c 3 l)
+
+  own-none-recorded : 3 ≤ c → 0 ≡ ownWord c
+  unfolding ownWord own
+  own-none-recorded l = rw (past-3 c l) refl
 
 -- no own marks
 own-word-3 : 0 ≡ ownWord 3
@@ -195,14 +221,13 @@ module _ (s : List ℕ) (k c : ℕ) where
   full-bits : (x j : ℕ) → x ≡ bitsOf (fullMarks c) 64 → j < mapBits c / 64 → x ≡ bitsOf (λ b. fullMarks c (64 * j + b)) 64
   full-bits x j e l = e ∙ sym (bits-ext _ _ 64 (λ b h. full-same c j b l h))
 
-  pub full-told : (x m : ℕ) (r : Bool) → x ≡ bitsOf (fullMarks c) 64 → m ≡ mapBits c / 64 → r ≡ wordsAre s k m x x 8 x → r ≡ isFull s k c
+  full-told : (x m : ℕ) (r : Bool) → x ≡ bitsOf (fullMarks c) 64 → m ≡ mapBits c / 64 → r ≡ wordsAre s k m x x 8 x → r ≡ isFull s k c
   unfolding isFull
   full-told x m r e d q =
       q ∙ rw d (alike s k (mapBits c / 64) x x 8 x (fullMarks c) (λ j l. every x x 8 j (λ z. omega (arith, bits-most c)) ∙ full-bits x j e l))
 
-  pub free-told : (i x o m : ℕ) (r : Bool) → x ≡ bitsOf (fullMarks c) 64 → o ≡ bitAnd x (18446744073709551615 - 9223372036854775808 / 2 ^ (i % 64)) → m ≡ mapBits c / 64
-      → r ≡ wordsAre s k m x x (i / 64) o → r ≡ lastFree s k c i
-  unfolding lastFree
+  free-told : (i x o m : ℕ) (r : Bool) → x ≡ bitsOf (fullMarks c) 64 → o ≡ bitAnd x (18446744073709551615 - 9223372036854775808 / 2 ^ (i % 64)) → m ≡ mapBits c / 64
+      → r ≡ wordsAre s k m x x (i / 64) o → r ≡ marksAre s k (mapBits c / 64) (upd (fullMarks c) i false)
   free-told i x o m r e p d q = q ∙ rw d (alike s k (mapBits c / 64) x x (i / 64) o (upd (fullMarks c) i false) (λ j l. go j l (eq? j (i / 64))))
     where
       go : (j : ℕ) → j < mapBits c / 64 → (j ≡ i / 64) ⊎ (j ≢ i / 64) → expected x x (i / 64) o j ≡ bitsOf (λ b. upd (fullMarks c) i false (64 * j + b)) 64
@@ -212,9 +237,8 @@ module _ (s : List ℕ) (k c : ℕ) where
           ∙ sym (same-word (fullMarks c) i j false z ∙ bits-ext _ _ 64 (λ b h. upd-at _ _ (i % 64) false b (full-same c j b l h)))
       go j l (inr z) = every x o (i / 64) j z ∙ full-bits x j e l ∙ sym (other-word (fullMarks c) i j false z)
 
-  pub taken-told : (i x o m : ℕ) (r : Bool) → x ≡ ownWord c → o ≡ bitOr (pick (eqb (i / 64) 0) x 0) (9223372036854775808 / 2 ^ (i % 64)) → m ≡ mapBits c / 64
-      → r ≡ wordsAre s k m x 0 (i / 64) o → r ≡ lastTaken s k c i
-  unfolding lastTaken
+  taken-told : (i x o m : ℕ) (r : Bool) → x ≡ ownWord c → o ≡ bitOr (pick (eqb (i / 64) 0) x 0) (9223372036854775808 / 2 ^ (i % 64)) → m ≡ mapBits c / 64
+      → r ≡ wordsAre s k m x 0 (i / 64) o → r ≡ marksAre s k (mapBits c / 64) (upd (ownMarks c) i true)
   taken-told i x o m r e p d q = q ∙ rw d (alike s k (mapBits c / 64) x 0 (i / 64) o (upd (ownMarks c) i true) (λ j l. go j (eq? j (i / 64)) (eq? j 0)))
     where
       none : (j : ℕ) → j ≢ 0 → bitsOf (λ b. ownMarks c (64 * j + b)) 64 ≡ 0
@@ -234,3 +258,48 @@ module _ (s : List ℕ) (k c : ℕ) where
           expected-first x 0 (i / 64) o j z y ∙ e ∙ sym (own-word c)
           ∙ sym (other-word (ownMarks c) i j true z ∙ bits-ext _ _ 64 (λ b h. rw y (own-first c b)))
       go j (inr z) (inr y) = expected-rest x 0 (i / 64) o j z y ∙ sym (other-word (ownMarks c) i j true z ∙ none j y)
+
+  -- ---- maps in the page
+
+  pub full-paged-told : (m : ℕ) (r : Bool) → c < 3 → m ≡ mapBits c / 64 → r ≡ wordsAre s k m 18446744073709551615 18446744073709551615 8 18446744073709551615 → r ≡ isFull s k c
+  full-paged-told m r l d q = full-told _ m r (full-paged c l) d q
+
+  pub free-paged-told : (i o m : ℕ) (r : Bool) → c < 3 → o ≡ 18446744073709551615 - 9223372036854775808 / 2 ^ (i % 64) → m ≡ mapBits c / 64
+      → r ≡ wordsAre s k m 18446744073709551615 18446744073709551615 (i / 64) o → r ≡ lastFree s k c i
+  unfolding lastFree
+  free-paged-told i o m r l p d q = rw (bit-paged c i l) (free-told i _ o m r (full-paged c l) (p ∙ but-one (i % 64) (omega arith)) d q)
+
+  pub taken-paged-told : (i x o m : ℕ) (r : Bool) → c < 3 → x ≡ ownWord c → o ≡ bitOr (pick (eqb (i / 64) 0) x 0) (9223372036854775808 / 2 ^ (i % 64)) → m ≡ mapBits c / 64
+      → r ≡ wordsAre s k m x 0 (i / 64) o → r ≡ lastTaken s k c i
+  unfolding lastTaken
+  taken-paged-told i x o m r l e p d q = rw (bit-paged c i l) (taken-told i x o m r e p d q)
+
+  -- ---- maps in the record
+
+  module _ (large : 3 ≤ c) where
+    pub full-recorded-told : (x : ℕ) (r : Bool) → x ≡ bitsOf (fullMarks c) 64 → r ≡ eqb (word s k) x → r ≡ isFull s k c
+    full-recorded-told x r e q =
+        full-told x (mapBits c / 64) r e refl (one-word s k (mapBits c / 64) x x 8 x x r (words-recorded c large) (sym (every x x 8 0 (λ z. omega arith))) q)
+
+    module _ (i : ℕ) where
+      low : i % 64 % 64 ≡ i % 64
+      low = omega arith
+
+      none : 0 ≡ i % 64 / 64
+      none = omega arith
+
+      pub free-recorded-told : (x : ℕ) (r : Bool) → x ≡ bitsOf (fullMarks c) 64 → r ≡ eqb (word s k) (bitAnd x (18446744073709551615 - 9223372036854775808 / 2 ^ (i % 64))) → r ≡ lastFree s k c i
+      unfolding lastFree
+      free-recorded-told x r e q =
+          rw (bit-recorded c i large)
+          (free-told (i % 64) x (bitAnd x (18446744073709551615 - 9223372036854775808 / 2 ^ (i % 64))) (mapBits c / 64) r e (rw low) refl
+          (one-word s k (mapBits c / 64) x x (i % 64 / 64) _ _ r (words-recorded c large) (sym (expected-odd x x (i % 64 / 64) _ 0 none)) q))
+
+      pub taken-recorded-told : (r : Bool) → r ≡ eqb (word s k) (9223372036854775808 / 2 ^ (i % 64)) → r ≡ lastTaken s k c i
+      unfolding lastTaken
+      taken-recorded-told r q =
+          let z : _≡_ {A = ℕ} (pick (eqb (i % 64 / 64) 0) 0 0) 0 = pick-yes _ _ _ (eq-eqb (i % 64 / 64) 0 (sym none)) in
+          rw (bit-recorded c i large)
+          (taken-told (i % 64) 0 (9223372036854775808 / 2 ^ (i % 64)) (mapBits c / 64) r (own-none-recorded c large)
+          (one-mark (i % 64) (omega arith) ∙ rw (z, low) refl) refl
+          (one-word s k (mapBits c / 64) 0 0 (i % 64 / 64) _ _ r (words-recorded c large) (sym (expected-odd 0 0 (i % 64 / 64) _ 0 none)) q))

@@ -1,5 +1,5 @@
 -- How full a class page is, by the words of its map. A map is named by the number k of its first word.
-use Prim.Native.Nat.{ℕ, _+_, _*_, _/_}
+use Prim.Native.Nat.{ℕ, _+_, _*_, _/_, _%_}
 use mathlib.Core.Bool.{Bool, true, false}
 use mathlib.Core.List.{List}
 use lib.Dec.{eqb, ltb}
@@ -22,16 +22,20 @@ fullMarks c b = ltb b (chunks c)
 unfoldable pub ownMarks : (c b : ℕ) → Bool
 ownMarks c b = ltb b (own c)
 
+-- the bit of chunk i in the map: a map in a record is one word
+unfoldable pub bitFor : (c i : ℕ) → ℕ
+bitFor c i = pick (ltb c 3) i (i % 64)
+
 unfoldable pub isFull : (s : List ℕ) (k c : ℕ) → Bool
 isFull s k c = marksAre s k (mapBits c / 64) (fullMarks c)
 
 -- chunk i alone is free
 unfoldable pub lastFree : (s : List ℕ) (k c i : ℕ) → Bool
-lastFree s k c i = marksAre s k (mapBits c / 64) (upd (fullMarks c) i false)
+lastFree s k c i = marksAre s k (mapBits c / 64) (upd (fullMarks c) (bitFor c i) false)
 
 -- chunk i alone is in a caller's hands
 unfoldable pub lastTaken : (s : List ℕ) (k c i : ℕ) → Bool
-lastTaken s k c i = marksAre s k (mapBits c / 64) (upd (ownMarks c) i true)
+lastTaken s k c i = marksAre s k (mapBits c / 64) (upd (ownMarks c) (bitFor c i) true)
 
 -- ---- as the code compares
 

@@ -1,5 +1,5 @@
-// Whether a class page is full, or one chunk from full or empty, told by the words of its map. No mark is counted: most pages differ in the
-// first word.
+// Whether a class page is full, or one chunk from full or empty, told by the words of its map. No mark is counted: a map in the page record
+// is one word, and most others differ in the first.
 ghost use mathlib.Core.Path.{_≡_};
 ghost use Prim.Native.Nat.{_/_, _%_, _^_, _≤_, _<_};
 ghost use lib.Dec.{eqb};
@@ -9,27 +9,25 @@ ghost use Rattle.maps.specs.Bitmap.{bitsOf};
 ghost use Rattle.map_count.specs.Mirror.{mapBits};
 ghost use Rattle.map_occupancy.specs.Mirror.{expected, wordsAre, fullMarks, isFull, lastFree, lastTaken};
 
-fn at_most_63(n: u16) -> u16
-    ensures { λ r. ⌜ (n ≤ 63 → r ≡ n) × (63 ≤ n → r ≡ 63) × (r ≤ 63) ⌝ }
-{
-    if n < 63 { n } else { 63 }
-}
+// Each word of the map of a full page of class 0, 1 or 2.
+const FULL: u64 = 18446744073709551615;
 
-// The first word of the map of a full page of class c; the other words are alike.
+// The word of the map of a full page of another class.
 fn full_word(c: u8) -> u64
+    requires { ⌜ 3 ≤ c ⌝ }
     ensures { λ r. ⌜ r ≡ bitsOf (fullMarks c) 64 ⌝ }
 {
     let n = classes::chunk_count(c);
-    !(9223372036854775807 >> at_most_63(n - 1))
+    !(9223372036854775807 >> (n - 1))
 }
 
-// The words of a map of class c.
+// The words of a map that lies in the page.
 fn word_count(c: u8) -> usize
+    requires { ⌜ c < 3 ⌝ }
     ensures answer { λ r. ⌜ r ≡ mapBits c / 64 ⌝ }
     ensures bound { λ r. ⌜ r ≤ 8 ⌝ }
 {
-    let n = classes::map_bytes(c);
-    (n / 8) as usize
+    8 >> c
 }
 
 // Mark i in the word that holds it.
@@ -69,26 +67,31 @@ fn all_words(pool: &[u8], k: usize, m: usize, first: u64, rest: u64, at: usize, 
     true
 }
 
-// Most classes have maps of one word, for which there is no loop.
-fn words_are(pool: &[u8], k: usize, m: usize, first: u64, rest: u64, at: usize, odd: u64) -> bool
-    requires { ⌜ (k < 67108864) × (m ≤ 8) ⌝ }
-    ensures { λ r. ⌜ r ≡ wordsAre (now (pool .entry)) k m first rest at odd ⌝ }
-{
-    if m == 1 {
-        word_is(pool, k, expected_word(first, rest, at, odd, 0))
-    } else {
-        all_words(pool, k, m, first, rest, at, odd)
-    }
-}
-
 // Whether the page of class c whose map begins with word k is full.
 pub fn is_full(pool: &[u8], k: usize, c: u8) -> bool
     requires { ⌜ k < 67108864 ⌝ }
     ensures { λ r. ⌜ r ≡ isFull (now (pool .entry)) k c ⌝ }
 {
-    let full = full_word(c);
+    if c < 3 {
+        full_paged(pool, k, c)
+    } else {
+        full_recorded(pool, k, c)
+    }
+}
+
+fn full_paged(pool: &[u8], k: usize, c: u8) -> bool
+    requires { ⌜ (c < 3) × (k < 67108864) ⌝ }
+    ensures { λ r. ⌜ r ≡ isFull (now (pool .entry)) k c ⌝ }
+{
     let m = word_count(c);
-    words_are(pool, k, m, full, full, 8, full)
+    all_words(pool, k, m, FULL, FULL, 8, FULL)
+}
+
+fn full_recorded(pool: &[u8], k: usize, c: u8) -> bool
+    requires { ⌜ 3 ≤ c ⌝ }
+    ensures { λ r. ⌜ r ≡ isFull (now (pool .entry)) k c ⌝ }
+{
+    word_is(pool, k, full_word(c))
 }
 
 // Whether chunk i is its only free chunk.
@@ -96,10 +99,27 @@ pub fn is_last_free(pool: &[u8], k: usize, c: u8, i: u16) -> bool
     requires { ⌜ k < 67108864 ⌝ }
     ensures { λ r. ⌜ r ≡ lastFree (now (pool .entry)) k c i ⌝ }
 {
-    let full = full_word(c);
+    if c < 3 {
+        last_free_paged(pool, k, c, i)
+    } else {
+        last_free_recorded(pool, k, c, i)
+    }
+}
+
+fn last_free_paged(pool: &[u8], k: usize, c: u8, i: u16) -> bool
+    requires { ⌜ (c < 3) × (k < 67108864) ⌝ }
+    ensures { λ r. ⌜ r ≡ lastFree (now (pool .entry)) k c i ⌝ }
+{
     let m = word_count(c);
-    let odd = full & !mark_word(i);
-    words_are(pool, k, m, full, full, (i / 64) as usize, odd)
+    let odd = !mark_word(i);
+    all_words(pool, k, m, FULL, FULL, (i / 64) as usize, odd)
+}
+
+fn last_free_recorded(pool: &[u8], k: usize, c: u8, i: u16) -> bool
+    requires { ⌜ 3 ≤ c ⌝ }
+    ensures { λ r. ⌜ r ≡ lastFree (now (pool .entry)) k c i ⌝ }
+{
+    word_is(pool, k, full_word(c) & !mark_word(i))
 }
 
 fn first_or_none(at: usize, v: u64) -> u64
@@ -113,9 +133,27 @@ pub fn is_last_taken(pool: &[u8], k: usize, c: u8, i: u16) -> bool
     requires { ⌜ k < 67108864 ⌝ }
     ensures { λ r. ⌜ r ≡ lastTaken (now (pool .entry)) k c i ⌝ }
 {
+    if c < 3 {
+        last_taken_paged(pool, k, c, i)
+    } else {
+        last_taken_recorded(pool, k, c, i)
+    }
+}
+
+fn last_taken_paged(pool: &[u8], k: usize, c: u8, i: u16) -> bool
+    requires { ⌜ (c < 3) × (k < 67108864) ⌝ }
+    ensures { λ r. ⌜ r ≡ lastTaken (now (pool .entry)) k c i ⌝ }
+{
     let own = classes::own_word(c);
     let m = word_count(c);
     let at = (i / 64) as usize;
     let odd = first_or_none(at, own) | mark_word(i);
-    words_are(pool, k, m, own, 0, at, odd)
+    all_words(pool, k, m, own, 0, at, odd)
+}
+
+fn last_taken_recorded(pool: &[u8], k: usize, c: u8, i: u16) -> bool
+    requires { ⌜ 3 ≤ c ⌝ }
+    ensures { λ r. ⌜ r ≡ lastTaken (now (pool .entry)) k c i ⌝ }
+{
+    word_is(pool, k, mark_word(i))
 }
