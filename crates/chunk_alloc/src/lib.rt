@@ -2,6 +2,7 @@
 // `w` is the number of words of a class record, `pages` the pages of the pool.
 use records::PageNumber;
 ghost use mathlib.Core.Path.{_≡_};
+ghost use Prim.Native.Nat.{_≤_, _<_};
 ghost use Rattle.maps.specs.Mirror.{lowestClear};
 ghost use Rattle.model.specs.Classes.{chunks};
 ghost use Rattle.rules.specs.Bytes.{mapBase};
@@ -18,13 +19,36 @@ fn free_chunk_of(pool: &[u8], w: u8, pages: u16, c: u8, p: PageNumber) -> u16
     )
 }
 
-// Chunk i of page p, the first on the list of class c, is handed out.
+// Chunk i of page p, the first on the list of class c, is handed out. Where the map lies is asked once.
 fn take_chunk(pool: &mut [u8], w: u8, pages: u16, c: u8, p: PageNumber, i: u16)
     ensures { λ _. ⌜ now (pool .exit) ≡ chunkTaken w (now (pool .entry)) pages c (p .0) i ⌝ }
 {
-    let last = map_places::is_last_free(pool, w, pages, p, c, i);
+    if c < 3 {
+        take_paged(pool, w, pages, c, p, i);
+    } else {
+        take_recorded(pool, w, pages, c, p, i);
+    }
+}
+
+fn take_paged(pool: &mut [u8], w: u8, pages: u16, c: u8, p: PageNumber, i: u16)
+    requires { ⌜ c < 3 ⌝ }
+    ensures { λ _. ⌜ now (pool .exit) ≡ chunkTaken w (now (pool .entry)) pages c (p .0) i ⌝ }
+{
+    let k = map_places::paged_word(w, pages, p, c);
+    let last = map_occupancy::last_free_paged(pool, k, c, i);
     class_lists::leave_if_full(pool, w, c, p, last);
-    map_marks::set_mark(pool, map_places::map_base(w, pages, p, c), i);
+    map_marks::set_mark(pool, 8 * k as u32, i);
+    class_counting::count_used(pool, w, c);
+}
+
+fn take_recorded(pool: &mut [u8], w: u8, pages: u16, c: u8, p: PageNumber, i: u16)
+    requires { ⌜ 3 ≤ c ⌝ }
+    ensures { λ _. ⌜ now (pool .exit) ≡ chunkTaken w (now (pool .entry)) pages c (p .0) i ⌝ }
+{
+    let k = map_places::recorded_word(w, pages, p, c);
+    let last = map_occupancy::last_free_recorded(pool, k, c, i);
+    class_lists::leave_if_full(pool, w, c, p, last);
+    map_marks::set_mark(pool, 8 * k as u32, i);
     class_counting::count_used(pool, w, c);
 }
 

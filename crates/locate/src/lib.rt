@@ -9,7 +9,7 @@ use records::Links;
 use records::PAGE;
 use records::PageNumber;
 ghost use mathlib.Core.Path.{_≡_};
-ghost use Prim.Native.Nat.{_≤_};
+ghost use Prim.Native.Nat.{_≤_, _<_};
 ghost use Rattle.locate.specs.Mirror.{marked, markFound, pastFound, startFound, sizedFound, offsetFound, classFound, runFound, kindFound, pageFound, located};
 
 // A chunk by its number in a page of its class. The number is wide so that `Found` is: of 16 bytes or fewer, an enum is passed as one
@@ -161,5 +161,23 @@ fn chunk_marked(pool: &[u8], w: u8, pages: u16, c: u8, p: PageNumber, i: u16) ->
 fn is_marked(pool: &[u8], w: u8, pages: u16, c: u8, p: PageNumber, i: u16) -> bool
     ensures { λ r. ⌜ r ≡ marked w (now (pool .entry)) pages c (p .0) i ⌝ }
 {
-    map_marks::get_mark(pool, map_places::map_base(w, pages, p, c), i)
+    if c < 3 {
+        marked_paged(pool, w, pages, c, p, i)
+    } else {
+        marked_recorded(pool, w, pages, c, p, i)
+    }
+}
+
+fn marked_paged(pool: &[u8], w: u8, pages: u16, c: u8, p: PageNumber, i: u16) -> bool
+    requires { ⌜ c < 3 ⌝ }
+    ensures { λ r. ⌜ r ≡ marked w (now (pool .entry)) pages c (p .0) i ⌝ }
+{
+    map_marks::get_mark(pool, map_places::paged_base(w, pages, p, c), i)
+}
+
+fn marked_recorded(pool: &[u8], w: u8, pages: u16, c: u8, p: PageNumber, i: u16) -> bool
+    requires { ⌜ 3 ≤ c ⌝ }
+    ensures { λ r. ⌜ r ≡ marked w (now (pool .entry)) pages c (p .0) i ⌝ }
+{
+    map_marks::get_mark(pool, map_places::recorded_base(w, pages, p, c), i)
 }

@@ -79,7 +79,7 @@ pub fn is_full(pool: &[u8], k: usize, c: u8) -> bool
     }
 }
 
-fn full_paged(pool: &[u8], k: usize, c: u8) -> bool
+pub fn full_paged(pool: &[u8], k: usize, c: u8) -> bool
     requires { ⌜ (c < 3) × (k < 67108864) ⌝ }
     ensures { λ r. ⌜ r ≡ isFull (now (pool .entry)) k c ⌝ }
 {
@@ -87,7 +87,7 @@ fn full_paged(pool: &[u8], k: usize, c: u8) -> bool
     all_words(pool, k, m, FULL, FULL, 8, FULL)
 }
 
-fn full_recorded(pool: &[u8], k: usize, c: u8) -> bool
+pub fn full_recorded(pool: &[u8], k: usize, c: u8) -> bool
     requires { ⌜ 3 ≤ c ⌝ }
     ensures { λ r. ⌜ r ≡ isFull (now (pool .entry)) k c ⌝ }
 {
@@ -95,18 +95,7 @@ fn full_recorded(pool: &[u8], k: usize, c: u8) -> bool
 }
 
 // Whether chunk i is its only free chunk.
-pub fn is_last_free(pool: &[u8], k: usize, c: u8, i: u16) -> bool
-    requires { ⌜ k < 67108864 ⌝ }
-    ensures { λ r. ⌜ r ≡ lastFree (now (pool .entry)) k c i ⌝ }
-{
-    if c < 3 {
-        last_free_paged(pool, k, c, i)
-    } else {
-        last_free_recorded(pool, k, c, i)
-    }
-}
-
-fn last_free_paged(pool: &[u8], k: usize, c: u8, i: u16) -> bool
+pub fn last_free_paged(pool: &[u8], k: usize, c: u8, i: u16) -> bool
     requires { ⌜ (c < 3) × (k < 67108864) ⌝ }
     ensures { λ r. ⌜ r ≡ lastFree (now (pool .entry)) k c i ⌝ }
 {
@@ -115,7 +104,7 @@ fn last_free_paged(pool: &[u8], k: usize, c: u8, i: u16) -> bool
     all_words(pool, k, m, FULL, FULL, (i / 64) as usize, odd)
 }
 
-fn last_free_recorded(pool: &[u8], k: usize, c: u8, i: u16) -> bool
+pub fn last_free_recorded(pool: &[u8], k: usize, c: u8, i: u16) -> bool
     requires { ⌜ 3 ≤ c ⌝ }
     ensures { λ r. ⌜ r ≡ lastFree (now (pool .entry)) k c i ⌝ }
 {
@@ -129,18 +118,7 @@ fn first_or_none(at: usize, v: u64) -> u64
 }
 
 // Whether chunk i is the only one in a caller's hands.
-pub fn is_last_taken(pool: &[u8], k: usize, c: u8, i: u16) -> bool
-    requires { ⌜ k < 67108864 ⌝ }
-    ensures { λ r. ⌜ r ≡ lastTaken (now (pool .entry)) k c i ⌝ }
-{
-    if c < 3 {
-        last_taken_paged(pool, k, c, i)
-    } else {
-        last_taken_recorded(pool, k, c, i)
-    }
-}
-
-fn last_taken_paged(pool: &[u8], k: usize, c: u8, i: u16) -> bool
+pub fn last_taken_paged(pool: &[u8], k: usize, c: u8, i: u16) -> bool
     requires { ⌜ (c < 3) × (k < 67108864) ⌝ }
     ensures { λ r. ⌜ r ≡ lastTaken (now (pool .entry)) k c i ⌝ }
 {
@@ -151,7 +129,7 @@ fn last_taken_paged(pool: &[u8], k: usize, c: u8, i: u16) -> bool
     all_words(pool, k, m, own, 0, at, odd)
 }
 
-fn last_taken_recorded(pool: &[u8], k: usize, c: u8, i: u16) -> bool
+pub fn last_taken_recorded(pool: &[u8], k: usize, c: u8, i: u16) -> bool
     requires { ⌜ 3 ≤ c ⌝ }
     ensures { λ r. ⌜ r ≡ lastTaken (now (pool .entry)) k c i ⌝ }
 {

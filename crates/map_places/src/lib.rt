@@ -1,11 +1,11 @@
-// The chunk maps of class pages: where they lie, and how full they are.
+// The chunk maps of class pages: where they lie.
 // `w` is the number of words of a class record, `pages` the pages of the pool.
 use records::PageNumber;
 ghost use mathlib.Core.Path.{_≡_};
 ghost use Prim.Native.Nat.{_≤_, _<_};
 ghost use Rattle.rules.specs.Bytes.{mapBase};
 ghost use Rattle.classes.specs.Mirror.{mapWord};
-ghost use Rattle.map_occupancy.specs.Mirror.{isFull, lastFree, lastTaken};
+ghost use Rattle.map_occupancy.specs.Mirror.{lastTaken};
 
 // One of two by where the map lies: in the page, or in its record. The choice is between numbers, so that no branch is made of it.
 fn chosen(c: u8, paged: u16, recorded: u16) -> u16
@@ -34,23 +34,53 @@ pub fn map_base(w: u8, pages: u16, p: PageNumber, c: u8) -> u32
     8 * k as u32
 }
 
-// Whether page p is full.
-pub fn is_full(pool: &[u8], w: u8, pages: u16, p: PageNumber, c: u8) -> bool
-    ensures { λ r. ⌜ r ≡ isFull (now (pool .entry)) (mapWord w pages (p .0) c) c ⌝ }
+// ---- where the caller knows which of the two it is; each choice then is made once for the whole of a call
+
+// At the start of the page.
+pub fn paged_word(w: u8, pages: u16, p: PageNumber, c: u8) -> usize
+    requires { ⌜ c < 3 ⌝ }
+    ensures answer { λ r. ⌜ r ≡ mapWord w pages (p .0) c ⌝ }
+    ensures bound { λ r. ⌜ r < 67108864 ⌝ }
 {
-    map_occupancy::is_full(pool, map_word(w, pages, p, c), c)
+    1 + 9 * w as usize + 2 * pages as usize + 512 * p.0 as usize
 }
 
-// Whether chunk i is the only free chunk of page p.
-pub fn is_last_free(pool: &[u8], w: u8, pages: u16, p: PageNumber, c: u8, i: u16) -> bool
-    ensures { λ r. ⌜ r ≡ lastFree (now (pool .entry)) (mapWord w pages (p .0) c) c i ⌝ }
+pub fn paged_base(w: u8, pages: u16, p: PageNumber, c: u8) -> u32
+    requires { ⌜ c < 3 ⌝ }
+    ensures { λ r. ⌜ r ≡ mapBase w pages (p .0) c ⌝ }
 {
-    map_occupancy::is_last_free(pool, map_word(w, pages, p, c), c, i)
+    let k = paged_word(w, pages, p, c);
+    8 * k as u32
+}
+
+// In its record.
+pub fn recorded_word(w: u8, pages: u16, p: PageNumber, c: u8) -> usize
+    requires { ⌜ 3 ≤ c ⌝ }
+    ensures answer { λ r. ⌜ r ≡ mapWord w pages (p .0) c ⌝ }
+    ensures bound { λ r. ⌜ r < 67108864 ⌝ }
+{
+    1 + 9 * w as usize + 2 * p.0 as usize
+}
+
+pub fn recorded_base(w: u8, pages: u16, p: PageNumber, c: u8) -> u32
+    requires { ⌜ 3 ≤ c ⌝ }
+    ensures { λ r. ⌜ r ≡ mapBase w pages (p .0) c ⌝ }
+{
+    let k = recorded_word(w, pages, p, c);
+    8 * k as u32
 }
 
 // Whether chunk i is the only one of page p in a caller's hands.
-pub fn is_last_taken(pool: &[u8], w: u8, pages: u16, p: PageNumber, c: u8, i: u16) -> bool
+pub fn last_taken_paged(pool: &[u8], w: u8, pages: u16, p: PageNumber, c: u8, i: u16) -> bool
+    requires { ⌜ c < 3 ⌝ }
     ensures { λ r. ⌜ r ≡ lastTaken (now (pool .entry)) (mapWord w pages (p .0) c) c i ⌝ }
 {
-    map_occupancy::is_last_taken(pool, map_word(w, pages, p, c), c, i)
+    map_occupancy::last_taken_paged(pool, paged_word(w, pages, p, c), c, i)
+}
+
+pub fn last_taken_recorded(pool: &[u8], w: u8, pages: u16, p: PageNumber, c: u8, i: u16) -> bool
+    requires { ⌜ 3 ≤ c ⌝ }
+    ensures { λ r. ⌜ r ≡ lastTaken (now (pool .entry)) (mapWord w pages (p .0) c) c i ⌝ }
+{
+    map_occupancy::last_taken_recorded(pool, recorded_word(w, pages, p, c), c, i)
 }

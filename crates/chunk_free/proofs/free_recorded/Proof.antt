@@ -1,17 +1,17 @@
 use Rattle.chunks.specs.Mirror.{chunkFreed}
 use Rattle.base.proofs.Tests.{picks}
 use borrow.Author.Needs.{needs}
-use Rattle.chunk_free.proofs.free_chunk.Statement.{statement}
-use Rattle.chunk_free.proofs.free_chunk.Tie as tie
+use Rattle.chunk_free.proofs.free_recorded.Statement.{statement}
+use Rattle.chunk_free.proofs.free_recorded.Tie as tie
 
-is-last-taken-requires : tie.Need-is-last-taken-requires
-is-last-taken-requires c κs = search needs
+last-taken-recorded-requires : tie.Need-last-taken-recorded-requires
+last-taken-recorded-requires c κs = search needs
 
 drop-page-requires : tie.Need-drop-page-requires
 drop-page-requires c κs = search needs
 
-keep-page-requires : tie.Need-keep-page-requires
-keep-page-requires c κs = search needs
+keep-recorded-requires : tie.Need-keep-recorded-requires
+keep-recorded-requires c κs = search needs
 
 same-length : tie.Need-same-length
 same-length c = search needs
@@ -27,13 +27,13 @@ returns-2 : tie.Need-returns-2
 unfolding chunkFreed
 returns-2 c = search picks
 
-pub free-chunk-spec : {M : Type 1} → statement M
-free-chunk-spec =
+pub free-recorded-spec : {M : Type 1} → statement M
+free-recorded-spec =
     tie.close
     (tie.spec
-    is-last-taken-requires
+    last-taken-recorded-requires
     drop-page-requires
-    keep-page-requires
+    keep-recorded-requires
     same-length
     returns
     same-length-2

@@ -1,0 +1,43 @@
+use mathlib.Core.Path.{sym}
+use native.Mathlib.Omega.{arith}
+use Rattle.classes.proofs.Numbers.{word-paged}
+use borrow.Author.Needs.{needs}
+use Rattle.map_places.proofs.paged_word.Statement.{statement}
+use Rattle.map_places.proofs.paged_word.Tie as tie
+
+mul-result : tie.Need-mul-result
+mul-result c = search needs
+
+add-result : tie.Need-add-result
+add-result c = search needs
+
+mul-result-2 : tie.Need-mul-result-2
+mul-result-2 c = search needs
+
+add-result-2 : tie.Need-add-result-2
+add-result-2 c = search needs
+
+cast-result : tie.Need-cast-result
+cast-result c = search needs
+
+mul-result-3 : tie.Need-mul-result-3
+mul-result-3 c = search needs
+
+add-result-3 : tie.Need-add-result-3
+add-result-3 c = search needs
+
+returns : tie.Need-returns
+returns c = (sym (word-paged _ _ _ _ (c .before .pre)), omega arith)
+
+pub paged-word-spec : {M : Type 1} → statement M
+paged-word-spec =
+    tie.close
+    (tie.spec
+    mul-result
+    add-result
+    mul-result-2
+    add-result-2
+    cast-result
+    mul-result-3
+    add-result-3
+    returns)
