@@ -3,7 +3,7 @@ use mathlib.Core.Path.{_≡_, refl, sym, _∙_, ap}
 use mathlib.Core.Logic.{_⊎_, inl, inr, ⊎-elim, _≢_}
 use mathlib.Core.Bool.{Bool, true, false, not}
 use mathlib.Core.List.{List, [], _∷_}
-use Prim.Native.Nat.{ℕ, suc, _+_, _-_, _≤_, _<_}
+use Prim.Native.Nat.{ℕ, suc, _+_, _-_, _/_, _%_, _≤_, _<_}
 use native.Mathlib.Omega.{arith}
 use borrow.Author.Tests.{ne-eqb}
 use Rattle.base.specs.Tests.{pick}
@@ -30,7 +30,7 @@ use Rattle.rules.proofs.Fits.{state-fits}
 use Rattle.shows.specs.Shows.{Unlisted}
 use Rattle.shows.proofs.Shows.{state-shows, not-start, not-listed}
 use Rattle.run_laws.proofs.Shown.{state-scene}
-use Rattle.classes.specs.Mirror.{mapWord, chunkBack, countBack}
+use Rattle.classes.specs.Mirror.{mapWord, chunkBorrowed, countBack}
 use Rattle.map_occupancy.specs.Mirror.{isFull}
 use Rattle.chunks.specs.Mirror.{classLinks, fullReturns, chunkKept, chunkFreed}
 use Rattle.drawing.specs.Draw.{mapped, draw}
@@ -39,6 +39,9 @@ use Rattle.chunk_laws.proofs.Counts.{used-bump}
 use Rattle.chunk_laws.proofs.Lists.{pushed-shows, enlisted-painted}
 use Rattle.chunk_laws.proofs.Remarked.{Here, page-ok, page-below}
 use Rattle.chunk_laws.proofs.Remarked as remarked
+
+no-borrow : (x y : ℕ) → y ≡ 1 → x < 65536 → (x + 65535 + y) % 65536 ≡ x
+no-borrow x y e h = rw e (omega arith)
 
 module _ {w : ℕ} {s : List ℕ} {m : State} {p c : ℕ} {k : ℕ → Bool} (H : Here w s m p c k)
     (i : ℕ) (in-use : own c ≤ i) (in-range : i < chunks c) (set : k i ≡ true) (stay : hasTaken c (upd k i false) ≡ true) where
@@ -72,12 +75,17 @@ module _ {w : ℕ} {s : List ℕ} {m : State} {p c : ℕ} {k : ℕ → Bool} (H 
 
   -- ---- the class record
 
-  own-record : chunkBack (midway m n .class c) ≡ stateImage n .class c
+  own-record : chunkBorrowed (midway m n .class c) ≡ stateImage n .class c
   unfolding stateImage
   own-record =
-      let u : usedOf m c - 1 ≡ usedOf n c = omega (arith, used-more, remarked.used-own H i false in-range l (m .tally)) in
+      let F = state-fits W few .class c (omega (arith, page-ok H .in-range)) in
+      let G = state-fits Wn few .class c (omega (arith, page-ok H .in-range)) in
+      let o : usedOf m c ≡ usedOf n c + 1 = omega (arith, used-more, remarked.used-own H i false in-range l (m .tally)) in
+      let u : (usedOf m c + 16777215) % 16777216 ≡ usedOf n c = omega (arith, o, F .used) in
+      let y : (usedOf m c + 16777215) / 16777216 ≡ 1 = omega (arith, o, F .used) in
+      let f : (stateImage n .class c .first .0 + 65535 + (usedOf m c + 16777215) / 16777216) % 65536 ≡ stateImage n .class c .first .0 = no-borrow _ _ y (G .first) in
       let t : shown m .total c ≡ shown n .total c = sym (remarked.total-same H i false in-range l (m .tally) c) in
-      λ j. classRecord (stateImage n .class c .first .0) (u j) (t j) (m .tally c)
+      λ j. classRecord (f j) (u j) (t j) (m .tally c)
 
   -- ---- the lists
 
@@ -130,5 +138,5 @@ module _ {w : ℕ} {s : List ℕ} {m : State} {p c : ℕ} {k : ℕ → Bool} (H 
   unfolding chunkFreed chunkKept countBack keepPage pick
   chunk-kept =
       rw (remarked.last-taken-told H i in-use in-range set ∙ ap not stay)
-      (remarked.remarked-drawn H i false in-range l (m .tally) Wn chunkBack own-record (λ d e. refl) _
+      (remarked.remarked-drawn H i false in-range l (m .tally) Wn chunkBorrowed own-record (λ d e. refl) _
       (⊎-elim stays returns (bool? (hasClear c k))))

@@ -3,7 +3,7 @@ use mathlib.Core.Path.{_≡_, refl, sym, ap, _∙_}
 use mathlib.Core.Logic.{inl, ⊎-elim}
 use mathlib.Core.Bool.{Bool, true, false, not, cond}
 use mathlib.Core.List.{List, _∷_}
-use Prim.Native.Nat.{ℕ, suc, _+_, _%_, _≤_, _<_}
+use Prim.Native.Nat.{ℕ, suc, _+_, _/_, _%_, _≤_, _<_}
 use native.Mathlib.Omega.{arith}
 use borrow.Author.Tests.{eq-eqb, ne-eqb}
 use Rattle.base.specs.Tests.{pick}
@@ -29,7 +29,7 @@ use Rattle.rules.proofs.Fits.{state-fits}
 use Rattle.shows.specs.Shows.{Unlisted, ShowsLinks}
 use Rattle.run_laws.proofs.Starts.{keep-every}
 use Rattle.run_laws.proofs.Cut.{shows-written}
-use Rattle.classes.specs.Mirror.{mapWord, chunkUsed, countUsed}
+use Rattle.classes.specs.Mirror.{mapWord, chunkCarried, countUsed}
 use Rattle.map_occupancy.specs.Mirror.{lastFree}
 use Rattle.chunks.specs.Mirror.{classLinks, setAside, fullLeaves, chunkTaken}
 use Rattle.drawing.specs.Draw.{mapped, draw}
@@ -88,14 +88,15 @@ module _ {w : ℕ} {s : List ℕ} {m : State} {p c : ℕ} {k : ℕ → Bool} (H 
 
   -- ---- the class record
 
-  own-record : chunkUsed (midway m (n l) .class c) ≡ stateImage (n l) .class c
+  own-record : chunkCarried (midway m (n l) .class c) ≡ stateImage (n l) .class c
   unfolding stateImage asked
   own-record =
-      let u : usedOf m c % 16777216 + 1 ≡ usedOf (n l) c =
-      omega (arith, state-fits W few .class c (omega (arith, page-ok H .in-range)) .used, used-more, remarked.used-own H i true (clear .0) l (n l .tally)) in
+      let F = state-fits Wn few .class c (omega (arith, page-ok H .in-range)) in
+      let u : usedOf m c + 1 ≡ usedOf (n l) c = omega (arith, used-more, remarked.used-own H i true (clear .0) l (n l .tally)) in
+      let f : (stateImage (n l) .class c .first .0 + (usedOf m c + 1) / 16777216) % 65536 ≡ stateImage (n l) .class c .first .0 = omega (arith, u, F .used, F .first) in
       let t : shown m .total c ≡ shown (n l) .total c = sym (remarked.total-same H i true (clear .0) l (n l .tally) c) in
       let a : asked (m .tally c) ≡ n l .tally c = sym (upd-same (m .tally) c (asked (m .tally c))) in
-      λ j. classRecord (stateImage (n l) .class c .first .0) (u j) (t j) (a j)
+      λ j. classRecord (f j) (u j) (t j) (a j)
 
   -- ---- the lists
 
@@ -148,5 +149,5 @@ module _ {w : ℕ} {s : List ℕ} {m : State} {p c : ℕ} {k : ℕ → Bool} (H 
   pub chunk-taken : chunkTaken w (draw w s m) P c p i ≡ draw w s (markChunk m c p rest k .after)
   unfolding chunkTaken countUsed markChunk
   chunk-taken =
-      remarked.remarked-drawn H i true (clear .0) l (n l .tally) Wn chunkUsed own-record
+      remarked.remarked-drawn H i true (clear .0) l (n l .tally) Wn chunkCarried own-record
       (λ d e. upd-other (m .tally) c (asked (m .tally c)) d e) _ (⊎-elim stays leaves (bool? (hasClear c k′)))

@@ -8,7 +8,7 @@ ghost use Prim.Native.Nat.{_+_, _-_, _%_};
 ghost use Rattle.words.specs.Word.{word, setWord};
 ghost use Rattle.records.specs.Class.{packCounts, packTally, unpackClass};
 ghost use Rattle.model.specs.Calls.{raise};
-ghost use Rattle.classes.specs.Mirror.{chunkAsked, chunkUsed, chunkBack, countUsed, countPageUsed, countBack, countPageBack, chunkRefused};
+ghost use Rattle.classes.specs.Mirror.{chunkAsked, chunkUsed, chunkCarried, chunkBack, chunkBorrowed, countUsed, countPageUsed, countBack, countPageBack, chunkRefused};
 
 // One more, or stopped.
 fn raised(n: u32) -> u32
@@ -48,26 +48,23 @@ fn chunk_back(r: ClassRecord) -> ClassRecord
     records::used_to(r, minus(r.used, 1))
 }
 
-// ---- one chunk more or less, in the words that change: `used` is the middle 24 bits of the counts, `reqs` the upper half of the tallies
+// ---- one chunk more or less, in the words that change: `used` is the middle 24 bits of the counts, `reqs` the upper half of the tallies.
+// On sound records `used` neither overflows nor falls below 0, so the word is added to as it stands
+
+const ONE_USED: u64 = 16777216;
+
+const MINUS_ONE_USED: u64 = 18446744073692774400;
 
 fn used_more(v: u64) -> u64
-    ensures { λ r. ⌜ r ≡ packCounts (chunkUsed (unpackClass v 0)) ⌝ }
+    ensures { λ r. ⌜ r ≡ packCounts (chunkCarried (unpackClass v 0)) ⌝ }
 {
-    if v / 16777216 % 16777216 == 16777215 {
-        v - 281474959933440
-    } else {
-        v + 16777216
-    }
+    std::num::wrapping_add_u64(v, ONE_USED)
 }
 
 fn used_less(v: u64) -> u64
-    ensures { λ r. ⌜ r ≡ packCounts (chunkBack (unpackClass v 0)) ⌝ }
+    ensures { λ r. ⌜ r ≡ packCounts (chunkBorrowed (unpackClass v 0)) ⌝ }
 {
-    if v / 16777216 % 16777216 == 0 {
-        v
-    } else {
-        v - 16777216
-    }
+    std::num::wrapping_add_u64(v, MINUS_ONE_USED)
 }
 
 fn asks_more(v: u64) -> u64
@@ -81,14 +78,14 @@ fn asks_more(v: u64) -> u64
 }
 
 fn count_one_used(pool: &mut [u8], k: usize)
-    ensures { λ _. ⌜ now (pool .exit) ≡ setWord (now (pool .entry)) k (packCounts (chunkUsed (unpackClass (word (now (pool .entry)) k) 0))) ⌝ }
+    ensures { λ _. ⌜ now (pool .exit) ≡ setWord (now (pool .entry)) k (packCounts (chunkCarried (unpackClass (word (now (pool .entry)) k) 0))) ⌝ }
 {
     let v = cells::get_word(pool, k);
     cells::put_word(pool, k, used_more(v));
 }
 
 fn count_one_back(pool: &mut [u8], k: usize)
-    ensures { λ _. ⌜ now (pool .exit) ≡ setWord (now (pool .entry)) k (packCounts (chunkBack (unpackClass (word (now (pool .entry)) k) 0))) ⌝ }
+    ensures { λ _. ⌜ now (pool .exit) ≡ setWord (now (pool .entry)) k (packCounts (chunkBorrowed (unpackClass (word (now (pool .entry)) k) 0))) ⌝ }
 {
     let v = cells::get_word(pool, k);
     cells::put_word(pool, k, used_less(v));

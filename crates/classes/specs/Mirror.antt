@@ -1,6 +1,6 @@
 -- The map of a class page and the record of a class, in the bytes of a pool of P pages.
 -- w is the number of words of a class record.
-use Prim.Native.Nat.{ℕ, _+_, _-_, _*_, _%_, _^_}
+use Prim.Native.Nat.{ℕ, _+_, _-_, _*_, _/_, _%_, _^_}
 use mathlib.Core.List.{List}
 use lib.Dec.{ltb}
 use Rattle.base.specs.Tests.{pick}
@@ -31,6 +31,17 @@ chunkAsked r = reqsTo r (raise (r .reqs))
 abbrev pub chunkUsed : ClassRecord → ClassRecord
 chunkUsed r = usedTo (chunkAsked r) (r .used % 16777216 + 1)
 
+-- as the word of counts is added to: a carry, which sound records never have, goes on into the first page
+abbrev pub chunkCarried : ClassRecord → ClassRecord
+chunkCarried r =
+    record {
+      first = record { 0 = (r .first .0 + (r .used + 1) / 16777216) % 65536 };
+      used = r .used + 1;
+      total = r .total;
+      reqs = raise (r .reqs);
+      fails = r .fails;
+    }
+
 -- of a new page
 abbrev pub pageUsed : (c : ℕ) (r : ClassRecord) → ClassRecord
 pageUsed c r = totalTo (chunkUsed r) (r .total % 16777216 + counted c)
@@ -43,18 +54,29 @@ noneUsed r = failsTo (chunkAsked r) (raise (r .fails))
 abbrev pub chunkBack : ClassRecord → ClassRecord
 chunkBack r = usedTo r (r .used - 1)
 
+-- as the word of counts is subtracted from: a borrow likewise
+abbrev pub chunkBorrowed : ClassRecord → ClassRecord
+chunkBorrowed r =
+    record {
+      first = record { 0 = (r .first .0 + 65535 + (r .used + 16777215) / 16777216) % 65536 };
+      used = (r .used + 16777215) % 16777216;
+      total = r .total;
+      reqs = r .reqs;
+      fails = r .fails;
+    }
+
 -- and with it its page
 abbrev pub pageBack : (c : ℕ) (r : ClassRecord) → ClassRecord
 pageBack c r = totalTo (chunkBack r) (r .total - counted c)
 
 unfoldable pub countUsed : (w : ℕ) (s : List ℕ) (c : ℕ) → List ℕ
-countUsed w s c = withClass w s c (chunkUsed (classAt w s c))
+countUsed w s c = withClass w s c (chunkCarried (classAt w s c))
 
 unfoldable pub countPageUsed : (w : ℕ) (s : List ℕ) (c : ℕ) → List ℕ
 countPageUsed w s c = withClass w s c (pageUsed c (classAt w s c))
 
 unfoldable pub countBack : (w : ℕ) (s : List ℕ) (c : ℕ) → List ℕ
-countBack w s c = withClass w s c (chunkBack (classAt w s c))
+countBack w s c = withClass w s c (chunkBorrowed (classAt w s c))
 
 unfoldable pub countPageBack : (w : ℕ) (s : List ℕ) (c : ℕ) → List ℕ
 countPageBack w s c = withClass w s c (pageBack c (classAt w s c))

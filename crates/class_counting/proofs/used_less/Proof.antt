@@ -1,16 +1,14 @@
-use Rattle.class_counting.proofs.Words.{used-none, used-falls}
+use mathlib.Core.Path.{_∙_}
+use Rattle.class_counting.proofs.Words.{used-borrows}
 use borrow.Author.Needs.{needs}
 use Rattle.class_counting.proofs.used_less.Statement.{statement}
 use Rattle.class_counting.proofs.used_less.Tie as tie
 
-sub-result : tie.Need-sub-result
-sub-result c = search needs
+wrapping-add-u64-requires : tie.Need-wrapping-add-u64-requires
+wrapping-add-u64-requires c κs = search needs
 
 returns : tie.Need-returns
-returns c = used-none _ (search needs) (search needs)
-
-returns-2 : tie.Need-returns-2
-returns-2 c = used-falls _ (search needs) (search needs)
+returns c = c .wrapping-add-u64 .ensures ∙ used-borrows _ (search needs)
 
 pub used-less-spec : {M : Type 1} → statement M
-used-less-spec = tie.close (tie.spec sub-result returns returns-2)
+used-less-spec = tie.close (tie.spec wrapping-add-u64-requires returns)
