@@ -55,6 +55,11 @@ const ONE_USED: u64 = 16777216;
 
 const MINUS_ONE_USED: u64 = 18446744073692774400;
 
+const ONE_ASK: u64 = 4294967296;
+
+// The least word in which asks have stopped.
+const ASKS_STOPPED: u64 = 18446744069414584320;
+
 fn used_more(v: u64) -> u64
     ensures { λ r. ⌜ r ≡ packCounts (chunkCarried (unpackClass v 0)) ⌝ }
 {
@@ -70,11 +75,7 @@ fn used_less(v: u64) -> u64
 fn asks_more(v: u64) -> u64
     ensures { λ r. ⌜ r ≡ packTally (chunkAsked (unpackClass 0 v)) ⌝ }
 {
-    if v < 18446744069414584320 {
-        v + 4294967296
-    } else {
-        v
-    }
+    if v < ASKS_STOPPED { v + ONE_ASK } else { v }
 }
 
 fn count_one_used(pool: &mut [u8], k: usize)
