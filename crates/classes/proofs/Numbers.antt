@@ -1,15 +1,16 @@
 -- The nine classes' numbers, as the code has them.
 use mathlib.Core.Path.{_≡_, refl}
-use mathlib.Core.Logic.{_≢_}
+use mathlib.Core.Logic.{⊎-elim, _≢_}
 use mathlib.Core.Bool.{false, not}
 use Prim.Native.Nat.{ℕ, zero, suc, _+_, _-_, _*_, _/_, _^_, _≤_, _<_}
 use native.Mathlib.Omega.{arith}
 use borrow.Author.Needs.{needs}
 use lib.Pow.{pow-pos, pow-mono}
-use lib.Dec.{eqb}
-use borrow.Author.Tests.{lt-ltb, le-ltb, eqb-true, not-false}
+use lib.Dec.{eqb, leb}
+use borrow.Author.Tests.{lt-ltb, le-ltb, leb-true, eqb-true, not-false}
 use Rattle.base.specs.Tests.{pick}
 use Rattle.base.specs.Search.{least, any}
+use Rattle.base.proofs.Cases.{lt?}
 use Rattle.base.proofs.Search.{any-false}
 use Rattle.records.specs.Layout.{mapPlace, pagesFrom}
 use Rattle.model.specs.Classes.{chunks, own}
@@ -57,6 +58,14 @@ own-past zero h = absurd (omega arith)
 own-past (suc zero) h = absurd (omega arith)
 own-past (suc (suc zero)) h = absurd (omega arith)
 own-past (suc (suc (suc c))) h = refl
+
+-- and one that the map leaves chunks to callers
+left : any (λ c. not (leb (own c) (chunks c))) 9 ≡ false
+unfolding any least chunks own
+left = refl
+
+pub own-least : (c : ℕ) → own c ≤ chunks c
+own-least c = ⊎-elim (λ h. leb-true _ _ (not-false _ (any-false (λ d. not (leb (own d) (chunks d))) 9 left c h))) (λ h. omega (arith, own-past c (omega arith))) (lt? c 9)
 
 pub bytes-8 : (c : ℕ) → c ≡ 0 → 64 ≡ mapBits c / 8
 unfolding mapBits pick chunks

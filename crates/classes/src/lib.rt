@@ -58,9 +58,9 @@ pub fn map_bytes(c: u8) -> u16
     }
 }
 
-// The chunks of a page that `total` counts.
+// The chunks of a page that `total` counts: those that serve callers.
 pub fn total_count(c: u8) -> u16
     ensures { λ r. ⌜ r ≡ counted c ⌝ }
 {
-    chunk_count(c)
+    chunk_count(c) - own_count(c)
 }

@@ -25,9 +25,9 @@ own (suc zero) = 2
 own (suc (suc zero)) = 1
 own (suc (suc (suc c))) = 0
 
--- the chunks of a page that `total` counts (rule 6)
+-- the chunks of a page that `total` counts (rule 6): those that serve callers
 unfoldable pub counted : ℕ → ℕ
-counted c = chunks c
+counted c = chunks c - own c
 
 -- ---- the marks of a class page: a set mark is a chunk in use
 

@@ -10,7 +10,7 @@ use borrow.Author.Tests.{lt-ltb, ltb-true, not-false}
 use Rattle.base.specs.Tests.{pick}
 use Rattle.base.specs.Search.{least, any}
 use Rattle.base.proofs.Search.{any-false}
-use Rattle.model.specs.Classes.{chunk, chunks, counted}
+use Rattle.model.specs.Classes.{chunk, chunks, own, counted}
 use Rattle.model.specs.View.{View, totalIn, shown}
 use Rattle.records.specs.Class.{classAt}
 use Rattle.records.specs.declared.ClassRecord.{ClassRecord}
@@ -24,7 +24,7 @@ use Rattle.report.specs.Report.{classPages, classText}
 use Rattle.report.specs.Mirror.{Sound}
 
 some-counted : any (λ c. not (ltb 0 (counted c))) 9 ≡ false
-unfolding any least counted chunks
+unfolding any least counted chunks own
 some-counted = refl
 
 pub counted-some : (c : ℕ) → c ≤ 8 → 0 < counted c

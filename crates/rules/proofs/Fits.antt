@@ -131,7 +131,8 @@ module _ {m : State} (W : WellFormed m) (few : m .size ≤ 4096) where
   total-fits c =
       let k : ℕ = count (λ p. isClass c (kindOf (m .page p))) n in
       let a : k ≤ 4096 = omega (arith, count-bound (λ p. isClass c (kindOf (m .page p))) n) in
-      omega (arith, mul-le-mul-left k (chunks-bound c))
+      let b : chunks c - own c ≤ 512 = omega (arith, chunks-bound c) in
+      omega (arith, mul-le-mul-left k b)
 
   pub state-fits : Fits n (stateImage m)
   unfolding stateImage freeIn most

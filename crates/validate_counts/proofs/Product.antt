@@ -8,7 +8,7 @@ use Rattle.classes.proofs.Numbers.{chunks-512}
 
 pub total-fits : (x y c : ℕ) → x < 65536 → y ≡ counted c → x * y < 18446744073709551616
 total-fits x y c h e =
-    let k : y ≤ 512 = rw e (unfold counted in chunks-512 c) in
+    let k : y ≤ 512 = rw e (unfold counted in omega (arith, chunks-512 c)) in
     let a : x ≤ 65536 = omega arith in
     let z : x * y ≤ 65536 * 512 = mul-le-mul a k in
     omega arith

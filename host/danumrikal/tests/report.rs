@@ -117,6 +117,26 @@ fn a_fresh_pool_of_one_page() {
 }
 
 #[test]
+fn a_packed_page_reads_as_full() {
+    for (class, chunks) in [504, 254, 127, 64, 32, 16, 8, 4, 2].into_iter().enumerate() {
+        let size = 8 << class;
+        let mut image = vec![0; SHORTEST];
+        let mut pool = Pool::new(&mut image);
+        pool.format().expect("one page");
+        for _ in 0..chunks {
+            pool.alloc(size).expect("a free chunk");
+        }
+        assert_eq!(pool.alloc(size), Err(Refusal::NoRoom));
+        let line = format!(
+            "class {size} pages 1 used {chunks} total {chunks} asks {} failures 1\n",
+            chunks + 1
+        );
+        alike(&image, &line);
+        assert!(String::from_utf8_lossy(&program(&image)).contains(&line), "{line}");
+    }
+}
+
+#[test]
 fn lengths_that_hold_no_pool_of_twelve_pages() {
     let mut image = vec![0; TOO_LONG];
     format(&mut image).expect("thirteen pages");

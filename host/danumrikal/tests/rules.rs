@@ -215,8 +215,8 @@ const CASES: &[(&str, Damage)] = &[
         counts(pool, 0, 24, 24, 9)
     }),
     ("a mark that used does not count", |pool| pool[MAP + 63] = 1),
-    ("total without the map's own chunks", |pool| {
-        counts(pool, 0, 0, 24, 504)
+    ("total with the map's own chunks", |pool| {
+        counts(pool, 0, 0, 24, 512)
     }),
     ("total of a class without pages", |pool| {
         counts(pool, 5, 0, 24, 16)

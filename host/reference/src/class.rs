@@ -56,9 +56,9 @@ impl Class {
         OWN_CHUNKS[self.index()]
     }
 
-    /// Chunks that one page of this class adds to `total`.
+    /// Chunks that one page of this class adds to `total`: those that serve callers.
     pub fn counted_chunks(self) -> u32 {
-        self.chunks()
+        self.chunks() - self.own_chunks()
     }
 
     /// Whether the bitmap is too long for the page record and lies in the page.

@@ -182,7 +182,7 @@ fn every_chunk_of_a_page_is_served_in_order() {
         for chunk in 1..=chunks {
             let offset = 4_096 - size * (chunks + 1 - chunk);
             assert_eq!(alloc(&mut bytes, size), Ok(offset));
-            assert_eq!(used_and_total(&bytes, class), (chunk.into(), 512 >> class));
+            assert_eq!(used_and_total(&bytes, class), (chunk.into(), chunks.into()));
         }
         assert!(validate(&bytes));
         assert_eq!(alloc(&mut bytes, size), Err(Refusal::NoRoom));

@@ -175,9 +175,9 @@ fn class_records() {
     breaks(6, class_record(7), USED, 24, &[0, 3, 5, 0xFF_FFFF]);
     breaks(6, class_record(7), TOTAL, 24, &[0, 4, 7, 9, 0xFF_FFFF]);
     breaks(6, class_record(0), USED, 24, &[0, 2, 9]);
-    breaks(6, class_record(0), TOTAL, 24, &[0, 504, 511, 513]);
+    breaks(6, class_record(0), TOTAL, 24, &[0, 503, 505, 512]);
     breaks(6, class_record(1), USED, 24, &[1]);
-    breaks(6, class_record(1), TOTAL, 24, &[1, 256]);
+    breaks(6, class_record(1), TOTAL, 24, &[1, 254]);
     for class in 0..9 {
         breaks(0, class_record(class), REQS, 32, &[0, 77, 0xFFFF_FFFF]);
         breaks(0, class_record(class), FAILS, 32, &[0, 77, 0xFFFF_FFFF]);

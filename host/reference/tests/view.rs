@@ -112,7 +112,7 @@ fn the_expected_view() {
     assert_eq!(view.classes, classes);
     assert_eq!(view.bitmaps, bitmaps);
     assert_eq!(view.used, [2, 0, 1, 0, 0, 0, 0, 2, 0]);
-    assert_eq!(view.total, [512, 0, 128, 0, 0, 0, 0, 8, 0]);
+    assert_eq!(view.total, [504, 0, 127, 0, 0, 0, 0, 8, 0]);
 }
 
 #[test]

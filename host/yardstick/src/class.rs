@@ -25,6 +25,9 @@ pub const UNUSED: [u64; CLASSES] = by_class(OWN);
 /// Chunks that a page is cut into.
 pub const CHUNKS: [u32; CLASSES] = [512, 256, 128, 64, 32, 16, 8, 4, 2];
 
+/// Chunks of a page that serve callers.
+pub const SERVING: [u32; CLASSES] = [504, 254, 127, 64, 32, 16, 8, 4, 2];
+
 /// The class of the smallest chunk that holds `size` bytes, up to 2,048.
 #[inline]
 pub fn class_of(size: u32) -> usize {

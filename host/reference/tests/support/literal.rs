@@ -100,7 +100,7 @@ pub fn broken_rule(bytes: &[u8]) -> u8 {
     for (class, chunks) in CHUNKS.into_iter().enumerate() {
         let of_class = || class_pages().filter(|page| page.class == class);
         if record(class, bits::USED, 24) != of_class().map(in_hands).sum::<usize>()
-            || record(class, bits::TOTAL, 24) != of_class().count() * chunks
+            || record(class, bits::TOTAL, 24) != of_class().count() * (chunks - OWN[class])
         {
             return 6;
         }

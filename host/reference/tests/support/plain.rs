@@ -162,7 +162,7 @@ impl Plain {
         for page in &self.pages {
             if let Page::Chunks { class, marks } = page {
                 used[*class] += marks.iter().filter(|mark| **mark).count() - OWN[*class];
-                total[*class] += CHUNKS[*class];
+                total[*class] += CHUNKS[*class] - OWN[*class];
             }
         }
         for class in 0..9 {

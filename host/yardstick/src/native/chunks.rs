@@ -1,7 +1,7 @@
 //! Chunks of the nine classes.
 
 use super::{Kind, Pool, HEADS};
-use crate::class::{map_words, shift, CHUNKS, FIRST_IN_RECORD, FIRST_MARK, FULL, OWN, UNUSED};
+use crate::class::{map_words, shift, FIRST_IN_RECORD, FIRST_MARK, FULL, OWN, SERVING, UNUSED};
 use crate::map::{give, give_to_words, take_from_words, take_lowest};
 use crate::Refusal;
 
@@ -47,7 +47,7 @@ impl Pool {
         self.link_first(HEADS + class as u16, page);
         let counts = &mut self.classes[class];
         counts.used += 1;
-        counts.total += CHUNKS[class];
+        counts.total += SERVING[class];
         Ok(u32::from(page) << 12 | OWN[class] << shift(class))
     }
 
@@ -70,7 +70,7 @@ impl Pool {
             self.link_first(HEADS + class as u16, page);
         } else if unused {
             self.unlink(page);
-            self.classes[class].total -= CHUNKS[class];
+            self.classes[class].total -= SERVING[class];
             self.release(page, 1);
         }
         Ok(1 << shift(class))

@@ -5,7 +5,7 @@ use super::layout::{
     FREE_FIRST, FREE_INSIDE, KIND_SHIFT, NEXT, NEXT_SHIFT, NONE, PREVIOUS, PREVIOUS_SHIFT, RUN,
     SPARE, TAKEN_FIRST, TAKEN_INSIDE, USED,
 };
-use crate::class::{CHUNKS, CLASSES, FIRST_IN_RECORD, FULL, OWN, UNUSED};
+use crate::class::{CLASSES, FIRST_IN_RECORD, FULL, OWN, SERVING, UNUSED};
 
 /// What one pass over the page records finds, in pages that obey rule 2.
 pub struct Census {
@@ -106,15 +106,14 @@ impl Census {
         } else {
             map.count_ones()
         };
-        let marked = u64::from(marked);
-        let chunks = u64::from(CHUNKS[class]);
-        let used = marked - u64::from(OWN[class]);
+        let serving = u64::from(SERVING[class]);
+        let used = u64::from(marked - OWN[class]);
         // All ones in an open page, which has a free chunk, else 0.
-        let open = (marked.wrapping_sub(chunks) as i64 >> 63) as u64;
+        let open = (used.wrapping_sub(serving) as i64 >> 63) as u64;
         self.in_full_pages &= links | open;
         self.one_less |= used.wrapping_sub(1);
         let count = &mut self.classes[class];
-        *count = (*count + used * USED + chunks).wrapping_sub(open << FIRST_SHIFT);
+        *count = (*count + used * USED + serving).wrapping_sub(open << FIRST_SHIFT);
         true
     }
 }

@@ -5,7 +5,7 @@ use super::layout::{
     CLASS_SHIFT, FIRST_SHIFT, NEXT, NEXT_SHIFT, NONE, PREVIOUS, USED,
 };
 use super::runs::{cut_run, release};
-use crate::class::{map_words, shift, CHUNKS, FIRST_IN_RECORD, FIRST_MARK, FULL, OWN, UNUSED};
+use crate::class::{map_words, shift, FIRST_IN_RECORD, FIRST_MARK, FULL, OWN, SERVING, UNUSED};
 use crate::map::{give, give_to_words, take_from_words, take_lowest};
 use crate::Refusal;
 
@@ -58,7 +58,7 @@ impl Pool<'_> {
         } else {
             put(in_record, map);
         }
-        let counts = (get(list) & COUNTS) + USED + u64::from(CHUNKS[class]);
+        let counts = (get(list) & COUNTS) + USED + u64::from(SERVING[class]);
         put(list, counts | (page as u64) << FIRST_SHIFT);
         Ok((page as u32) << 12 | OWN[class] << shift(class))
     }
@@ -88,7 +88,7 @@ impl Pool<'_> {
         } else if unused {
             let mut first = old >> FIRST_SHIFT;
             unlink(self.records, &mut first, links);
-            let counts = (old & COUNTS) - USED - u64::from(CHUNKS[class]);
+            let counts = (old & COUNTS) - USED - u64::from(SERVING[class]);
             put(list, counts | first << FIRST_SHIFT);
             release(self.header, self.records, page, 1);
         } else {
