@@ -44,13 +44,13 @@ extern "C" {
 #define DNK_PAGE 4096          /* bytes of a page */
 #define DNK_RECORD 16          /* bytes of a page's record */
 #define DNK_HEAD 152           /* bytes of header and class records, before the page records */
-#define DNK_MOST_PAGES 256     /* pages of the largest pool */
+#define DNK_MOST_PAGES 4096    /* pages of the largest pool */
 #define DNK_LARGEST_CHUNK 2048 /* blocks of more bytes are whole pages */
 
 /* The length of a pool of so many pages; a longer one has a tail that no call touches. */
 #define DNK_POOL_LENGTH(pages) (DNK_HEAD + (size_t)(DNK_RECORD + DNK_PAGE) * (pages))
 #define DNK_SHORTEST DNK_POOL_LENGTH(1)                       /* 4,264 */
-#define DNK_LONGEST (DNK_POOL_LENGTH(DNK_MOST_PAGES + 1) - 1) /* 1,056,935 */
+#define DNK_LONGEST (DNK_POOL_LENGTH(DNK_MOST_PAGES + 1) - 1) /* 16,847,015 */
 
 /*
  * An answer is one word: the refusal's number in the top 8 bits, 24 zero bits,

@@ -11,7 +11,7 @@ use Rattle.base.specs.Tests.{pick}
 use Rattle.base.proofs.Cases.{and-true, lt?}
 use Rattle.words.specs.Word.{Bytes}
 use Rattle.records.specs.Class.{classAt}
-use Rattle.model.specs.Classes.{Need, chunkOf, pages, needOf}
+use Rattle.model.specs.Classes.{maxPages, Need, chunkOf, pages, needOf}
 use Rattle.model.specs.State.{State}
 use Rattle.model.specs.Calls.{Call, fresh, step}
 use Rattle.model.specs.Live.{World, next, runFrom, begin}
@@ -56,20 +56,20 @@ format-is n = go (lt? n (shortest 2)) (lt? n (tooLong 2))
     go : (n < shortest 2) ⊎ (shortest 2 ≤ n) → (n < tooLong 2) ⊎ (tooLong 2 ≤ n) → outcomes (formatOutcome 2 n ∷ []) ≡ asSeen (made ((n - 152) / 4112))
     go (inl h) y = rw (lt-ltb n (shortest 2) h, lt-ltb ((n - 152) / 4112) 1 (omega arith))
     go (inr h) (inl l) =
-        rw (le-ltb n (shortest 2) h, lt-leb (tooLong 2) n l, le-ltb ((n - 152) / 4112) 1 (omega arith), le-ltb 256 ((n - 152) / 4112) (omega arith))
+        rw (le-ltb n (shortest 2) h, lt-leb (tooLong 2) n l, le-ltb ((n - 152) / 4112) 1 (omega arith), le-ltb maxPages ((n - 152) / 4112) (omega arith))
     go (inr h) (inr l) =
-        rw (le-ltb n (shortest 2) h, le-leb (tooLong 2) n l, le-ltb ((n - 152) / 4112) 1 (omega arith), lt-ltb 256 ((n - 152) / 4112) (omega arith))
+        rw (le-ltb n (shortest 2) h, le-leb (tooLong 2) n l, le-ltb ((n - 152) / 4112) 1 (omega arith), lt-ltb maxPages ((n - 152) / 4112) (omega arith))
 
 -- a question about a pool that there can be, and a class
 fits : Question → Bool
 fits (formats n) = true
 fits (sized n) = true
-fits (replies P cs) = leb 1 P && leb P 256
-fits (tallyAfter P cs c) = (leb 1 P && leb P 256) && ltb c 9
-fits (runsAfter P cs) = leb 1 P && leb P 256
+fits (replies P cs) = leb 1 P && leb P maxPages
+fits (tallyAfter P cs c) = (leb 1 P && leb P maxPages) && ltb c 9
+fits (runsAfter P cs) = leb 1 P && leb P maxPages
 
-module _ (slice : ℕ → List ℕ) (ok : (P : ℕ) → 1 ≤ P → P ≤ 256 → Accepted P (slice P)) where
-  module _ (P : ℕ) (t : leb 1 P && leb P 256 ≡ true) where
+module _ (slice : ℕ → List ℕ) (ok : (P : ℕ) → 1 ≤ P → P ≤ maxPages → Accepted P (slice P)) where
+  module _ (P : ℕ) (t : leb 1 P && leb P maxPages ≡ true) where
     A : Accepted P (slice P)
     A = let x = and-true _ _ t in ok P (leb-true _ _ (x .0)) (leb-true _ _ (x .1))
 

@@ -4,9 +4,9 @@ use Prim.Native.Nat.{ℕ, zero, suc, _+_, _-_, _/_, _%_, _^_}
 use lib.Dec.{eqb, leb}
 use Rattle.base.specs.Search.{least, any}
 
--- the most pages of a pool; every law holds up to 4,096
+-- the most pages of a pool
 abbrev pub maxPages : ℕ
-maxPages = 256
+maxPages = 4096
 
 -- ---- classes 0 to 8, for chunks of 8 to 2,048 bytes
 

@@ -68,7 +68,9 @@ examples =
     record { question = formats 4263; fact = noPool 1 } ∷
     record { question = formats 4264; fact = pool 1 } ∷
     record { question = formats 1056935; fact = pool 256 } ∷
-    record { question = formats 1056936; fact = noPool 2 } ∷
+    record { question = formats 1056936; fact = pool 257 } ∷
+    record { question = formats 16847015; fact = pool 4096 } ∷
+    record { question = formats 16847016; fact = noPool 2 } ∷
     record { question = sized 0; fact = aChunk 8 } ∷
     record { question = sized 1; fact = aChunk 8 } ∷
     record { question = sized 8; fact = aChunk 8 } ∷

@@ -164,13 +164,13 @@ fn main() -> ExitCode {
     let words: Vec<String> = std::env::args().skip(1).collect();
     let sum = match words.as_slice() {
         [who, pages, before] => match (pages.parse(), before.parse()) {
-            (Ok(pages @ 1..=256), Ok(before)) => checksum(who, pages, before),
+            (Ok(pages @ 1..=4_096), Ok(before)) => checksum(who, pages, before),
             _ => None,
         },
         _ => None,
     };
     let Some(sum) = sum else {
-        eprintln!("counting: proved, packed or native, or one with -batch; 1 to 256 pages; requests before");
+        eprintln!("counting: proved, packed or native, or one with -batch; 1 to 4096 pages; requests before");
         return ExitCode::FAILURE;
     };
     println!("{sum}");

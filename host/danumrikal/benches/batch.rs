@@ -28,7 +28,7 @@ fn main() {
     println!(
         "pages   proved  packed  native  second    proved/packed  proved/native  proved/second"
     );
-    for pages in [12, 64, 256] {
+    for pages in [12, 64, 256, 4_096] {
         let new = || native::Pool::new(pages as u16);
         let list = &requests(
             REQUESTS,

@@ -37,7 +37,7 @@ fn times<'a>(
 
 fn main() {
     println!("pages    proved   packed   second    proved/packed  proved/second");
-    for pages in [1, 12, 64, 256] {
+    for pages in [1, 12, 64, 256, 4_096] {
         let pool = &mixed(pages);
         let calls = 200_000 / pages + 100;
         let best = best_in_turn(

@@ -6,7 +6,7 @@ use crate::{ffi, Answer, Refusal, Request, Rule};
 /// Bytes of a page.
 pub const PAGE: usize = 4_096;
 /// Pages of the largest pool.
-pub const MOST_PAGES: usize = 256;
+pub const MOST_PAGES: usize = 4_096;
 
 const RECORD: usize = 16;
 /// Header and class records.
@@ -103,7 +103,7 @@ impl<'a> Pool<'a> {
     /// By the length alone; nothing changes:
     ///
     /// - [`Refusal::TooShort`]: below 4,264 bytes, which is `length(1)`
-    /// - [`Refusal::TooLong`]: from 1,056,936 bytes on, which is `length(257)`
+    /// - [`Refusal::TooLong`]: from 16,847,016 bytes on, which is `length(4_097)`
     ///
     /// ```
     /// use danumrikal::{length, Pool, Refusal};
@@ -111,7 +111,7 @@ impl<'a> Pool<'a> {
     /// let format = |len| Pool::new(&mut vec![0; len]).format();
     /// assert_eq!(format(length(1)), Ok(1));
     /// assert_eq!(format(length(1) - 1), Err(Refusal::TooShort));
-    /// assert_eq!(format(length(257)), Err(Refusal::TooLong));
+    /// assert_eq!(format(length(4_097)), Err(Refusal::TooLong));
     /// ```
     pub fn format(&mut self) -> Result<u32, Refusal> {
         answer(ffi::format(self.bytes))

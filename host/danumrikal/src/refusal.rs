@@ -14,8 +14,8 @@ use std::fmt;
 pub enum Refusal {
     /// Format: the slice is shorter than 4,264 bytes and holds no page.
     TooShort = 1,
-    /// Format: the slice has 1,056,936 bytes or more and holds more than 256
-    /// pages.
+    /// Format: the slice has 16,847,016 bytes or more and holds more than
+    /// 4,096 pages.
     TooLong = 2,
     /// Alloc, free or batch: the records break a rule.
     NotSound = 3,

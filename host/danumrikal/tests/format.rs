@@ -21,14 +21,14 @@ fn lengths_around_the_first_pages_and_the_limits() {
         same(len, len as u64 + 1);
     }
     let ends = [length(12), LONGEST].map(|len| len - 2..len + 3);
-    for len in ends.into_iter().flatten().chain([2_000_000]) {
+    for len in ends.into_iter().flatten().chain([20_000_000]) {
         same(len, len as u64);
     }
 }
 
 #[test]
-fn every_page_count() {
-    for pages in 1..=MOST_PAGES {
+fn page_counts() {
+    for pages in (1..=256).chain([257, 1_000, 2_048, MOST_PAGES - 1, MOST_PAGES]) {
         same(length(pages) + pages * 7 % PER_PAGE, pages as u64);
     }
 }

@@ -132,7 +132,10 @@ fn a_packed_page_reads_as_full() {
             chunks + 1
         );
         alike(&image, &line);
-        assert!(String::from_utf8_lossy(&program(&image)).contains(&line), "{line}");
+        assert!(
+            String::from_utf8_lossy(&program(&image)).contains(&line),
+            "{line}"
+        );
     }
 }
 

@@ -108,7 +108,7 @@ const CASES: &[(&str, Damage)] = &[
     ("a page more than the header says", |pool| {
         pool.resize(length(9), 0)
     }),
-    ("as long as 257 pages", |pool| pool.resize(LONGEST + 1, 0)),
+    ("as long as 4,097 pages", |pool| pool.resize(LONGEST + 1, 0)),
     ("edition 0", |pool| header(pool, 56, 8, 0)),
     ("edition 2", |pool| header(pool, 56, 8, 2)),
     ("smallest shift 4", |pool| header(pool, 52, 4, 4)),

@@ -46,9 +46,9 @@ fn rules_by_number_and_name() {
 /// and what tests use.
 #[test]
 fn lengths_and_limits() {
-    assert_eq!((danumrikal::PAGE, danumrikal::MOST_PAGES), (4_096, 256));
-    assert_eq!((PAGE, MOST_PAGES), (4_096, 256));
-    assert_eq!((SHORTEST, LONGEST), (4_264, 1_056_935));
+    assert_eq!((danumrikal::PAGE, danumrikal::MOST_PAGES), (4_096, 4_096));
+    assert_eq!((PAGE, MOST_PAGES), (4_096, 4_096));
+    assert_eq!((SHORTEST, LONGEST), (4_264, 16_847_015));
     for pages in 1..=MOST_PAGES {
         assert_eq!(length(pages), support::length(pages));
         let format = |len| Pool::new(&mut vec![0; len]).format();
@@ -60,7 +60,14 @@ fn lengths_and_limits() {
 #[test]
 fn blocks_lie_where_their_pages_do() {
     let longest = PER_PAGE - 1;
-    for (pages, tail) in [(1, 0), (1, longest), (12, 0), (12, 17), (256, longest)] {
+    for (pages, tail) in [
+        (1, 0),
+        (1, longest),
+        (12, 0),
+        (12, 17),
+        (256, longest),
+        (4_096, longest),
+    ] {
         let mut bytes = vec![0; length(pages) + tail];
         let start = bytes.as_ptr() as usize;
         let place = |block: &[u8]| (block.as_ptr() as usize - start, block.len());

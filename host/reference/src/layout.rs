@@ -19,7 +19,7 @@ pub const PAGE_SHIFT: u32 = 12;
 /// Bytes in a page.
 pub const PAGE_SIZE: u32 = 1 << PAGE_SHIFT;
 /// The most pages a pool may have.
-pub const MAX_PAGES: u32 = 256;
+pub const MAX_PAGES: u32 = 4_096;
 
 const WORD_BYTES: usize = 8;
 const HEADER_BYTES: usize = 8;

@@ -73,11 +73,13 @@ fn format_lengths() {
     refused(&mut vec![7; 4_263], Refusal::TooShort, format);
     assert_eq!(format(&mut vec![7; 4_264]), Ok(1));
     assert_eq!(format(&mut vec![7; 1_056_935]), Ok(256));
-    refused(&mut vec![7; 1_056_936], Refusal::TooLong, format);
+    assert_eq!(format(&mut vec![7; 1_056_936]), Ok(257));
+    assert_eq!(format(&mut vec![7; 16_847_015]), Ok(4_096));
+    refused(&mut vec![7; 16_847_016], Refusal::TooLong, format);
     for bytes in [0, 1, 8, HEAD - 1, HEAD, HEAD + 1] {
         refused(&mut vec![7; bytes], Refusal::TooShort, format);
     }
-    refused(&mut vec![7; 2_000_000], Refusal::TooLong, format);
+    refused(&mut vec![7; 20_000_000], Refusal::TooLong, format);
 }
 
 #[test]

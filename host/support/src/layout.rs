@@ -13,7 +13,7 @@ pub const HEADER: usize = 8;
 /// Bytes of header and class records, before the page records.
 pub const HEAD: usize = HEADER + 9 * RECORD;
 /// Pages of the largest pool.
-pub const MOST_PAGES: usize = 256;
+pub const MOST_PAGES: usize = 4_096;
 /// Bytes of the shortest pool.
 pub const SHORTEST: usize = length(1);
 /// Bytes of the longest pool.

@@ -41,11 +41,13 @@ struct Counts {
     failures: u32,
 }
 
+/// Pages of the largest pool.
+const MOST_PAGES: usize = 4_096;
 /// Nodes from this one on head the class lists, and one the free runs.
-const HEADS: u16 = 256;
+const HEADS: u16 = MOST_PAGES as u16;
 const FREE_RUNS: u16 = HEADS + CLASSES as u16;
 /// A power of two, so that a mask keeps every number inside.
-const NODES: usize = 512;
+const NODES: usize = 2 * MOST_PAGES;
 
 /// A pool of pages without bytes: only its records.
 pub struct Pool {
@@ -53,14 +55,14 @@ pub struct Pool {
     free_pages: u16,
     nodes: Box<[Node; NODES]>,
     /// Maps of the classes that nginx keeps in the page.
-    maps: Box<[[u64; 8]; 256]>,
+    maps: Box<[[u64; 8]; MOST_PAGES]>,
     classes: [Counts; CLASSES],
 }
 
 impl Pool {
-    /// A pool with one free run of 1 to 256 pages.
+    /// A pool with one free run of 1 to 4,096 pages.
     pub fn new(pages: u16) -> Pool {
-        assert!((1..=HEADS).contains(&pages), "1 to 256 pages");
+        assert!((1..=HEADS).contains(&pages), "1 to 4,096 pages");
         let node = |number| Node {
             map: 0,
             run: 0,
@@ -73,7 +75,7 @@ impl Pool {
             pages,
             free_pages: 0,
             nodes: Box::new(std::array::from_fn(node)),
-            maps: Box::new([[0; 8]; 256]),
+            maps: Box::new([[0; 8]; MOST_PAGES]),
             classes: [Counts::default(); CLASSES],
         };
         pool.release(0, pages);

@@ -39,8 +39,8 @@ fn refuse_alike(pool: &mut Pool, bytes: &mut [u8], end: u32) {
 }
 
 #[test]
-fn calls_agree_at_every_page_count() {
-    for pages in 1..=MOST_PAGES {
+fn calls_agree_at_many_page_counts() {
+    for pages in (1..=256).chain([257, 1_000, MOST_PAGES]) {
         agree(pages as u64, pages, 1_000);
     }
 }

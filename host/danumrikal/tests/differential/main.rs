@@ -21,7 +21,10 @@ mod shrink;
 
 use player::{play_all, Plan, Seen};
 use program::{PROVED, SECOND};
-use support::{length, Habit, Rng, HEAD, MOST_PAGES, SHORTEST};
+use support::{length, Habit, Rng, HEAD, SHORTEST};
+
+/// Every page count up to here is played; `tests/scale.rs` has larger pools.
+const MANY_PAGES: usize = 256;
 
 /// How many times the usual number of games is played.
 fn times() -> u64 {
@@ -45,10 +48,10 @@ fn compare(calls: u64, plans: impl Iterator<Item = Plan>) -> Seen {
 
 #[test]
 fn every_page_count() {
-    let games = 0..MOST_PAGES as u64 * times();
+    let games = 0..MANY_PAGES as u64 * times();
     let seen = compare(
         30_000,
-        games.map(|game| Plan::new(game, 1 + game as usize % MOST_PAGES, 100)),
+        games.map(|game| Plan::new(game, 1 + game as usize % MANY_PAGES, 100)),
     );
     assert_eq!(seen.refused[3], 0);
     assert!(seen.refused[4..].iter().all(|count| *count > 100));

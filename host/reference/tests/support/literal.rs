@@ -49,7 +49,7 @@ fn read_page(bytes: &[u8], pages: usize, page: usize) -> Page {
 
 /// The first broken rule's number, or 0.
 pub fn broken_rule(bytes: &[u8]) -> u8 {
-    if bytes.len() < 4_264 || bytes.len() >= 1_056_936 {
+    if bytes.len() < 4_264 || bytes.len() >= 16_847_016 {
         return 1;
     }
     let count = (bytes.len() - 152) / 4_112;

@@ -1,6 +1,6 @@
 //! Chunks of the nine classes.
 
-use super::{Kind, Pool, HEADS};
+use super::{Kind, Pool, HEADS, MOST_PAGES};
 use crate::class::{map_words, shift, FIRST_IN_RECORD, FIRST_MARK, FULL, OWN, SERVING, UNUSED};
 use crate::map::{give, give_to_words, take_from_words, take_lowest};
 use crate::Refusal;
@@ -79,6 +79,6 @@ impl Pool {
     /// The map of a page of a class that nginx keeps in the page.
     #[inline(always)]
     fn words(&mut self, page: u16, class: usize) -> &mut [u64] {
-        &mut self.maps[usize::from(page) % 256][..map_words(class)]
+        &mut self.maps[usize::from(page) % MOST_PAGES][..map_words(class)]
     }
 }

@@ -47,7 +47,7 @@ pub const USED: u64 = 1 << 24;
 const HEAD: usize = 8 + 16 * CLASSES;
 /// A page and its record.
 const PER_PAGE: usize = 16 + 4_096;
-const MOST_PAGES: usize = 256;
+const MOST_PAGES: usize = 4_096;
 
 /// The links of a page of this kind with no other field in use.
 pub const fn links(kind: u64) -> u64 {
