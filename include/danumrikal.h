@@ -71,6 +71,7 @@ enum dnk_refusal {
     DNK_NOT_TAKEN = 6,
     DNK_NOT_A_START = 7,
     DNK_UNREADABLE = 8,
+    DNK_NOTHING_ASKED = 10,
     DNK_ANSWERS_TOO_SHORT = 11
 };
 
@@ -96,11 +97,12 @@ dnk_answer dnk_format(uint8_t *pool, size_t len);
 uint64_t dnk_validate(const uint8_t *pool, size_t len);
 
 /*
- * Takes a block of at least size bytes; 0 counts as 1. The value is its offset.
- * Up to DNK_LARGEST_CHUNK it is a chunk of the smallest power of two from 8 on
- * that holds the size, above that a run of whole pages. Refused by the first of:
- *   DNK_NOT_SOUND    the records break a rule
- *   DNK_NO_ROOM      no free chunk and no free page; no run long enough
+ * Takes a block of at least size bytes. The value is its offset. Up to
+ * DNK_LARGEST_CHUNK it is a chunk of the smallest power of two from 8 on that
+ * holds the size, above that a run of whole pages. Refused by the first of:
+ *   DNK_NOT_SOUND      the records break a rule
+ *   DNK_NOTHING_ASKED  the size is 0
+ *   DNK_NO_ROOM        no free chunk and no free page; no run long enough
  */
 dnk_answer dnk_alloc(uint8_t *pool, size_t len, uint32_t size);
 
@@ -173,6 +175,7 @@ static inline const char *dnk_refusal_name(enum dnk_refusal refusal)
     case DNK_NOT_TAKEN: return "not taken";
     case DNK_NOT_A_START: return "not a start";
     case DNK_UNREADABLE: return "unreadable";
+    case DNK_NOTHING_ASKED: return "nothing asked";
     case DNK_ANSWERS_TOO_SHORT: return "answers too short";
     }
     return "unknown";

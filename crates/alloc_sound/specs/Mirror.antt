@@ -5,7 +5,7 @@ use lib.Dec.{eqb, leb}
 use Rattle.base.specs.Tests.{pick}
 use Rattle.records.specs.Layout.{noPage}
 use Rattle.answers.specs.Outcome.{Outcome, granted, refused}
-use Rattle.answers.specs.declared.Refusal.the-variants.{NoRoom}
+use Rattle.answers.specs.declared.Refusal.the-variants.{NoRoom, NothingAsked}
 use Rattle.model.specs.Classes.{chunk, chunks, own, pagesFor}
 use Rattle.maps.specs.Mirror.{lowestClear}
 use Rattle.lists.specs.Mirror.{firstOf}
@@ -73,7 +73,7 @@ pagesSlice w s P k = runSlice w s k (fitIn w s P k)
 -- ---- a size
 
 unfoldable pub allocOutcome : (w : ℕ) (s : List ℕ) (P n : ℕ) → Outcome
-allocOutcome w s P n = pick (leb n 2048) (classOutcome w s P (classFor n)) (pagesOutcome w s P (pagesFor n))
+allocOutcome w s P n = pick (eqb n 0) (refused NothingAsked) (pick (leb n 2048) (classOutcome w s P (classFor n)) (pagesOutcome w s P (pagesFor n)))
 
 unfoldable pub allocSlice : (w : ℕ) (s : List ℕ) (P n : ℕ) → List ℕ
-allocSlice w s P n = pick (leb n 2048) (classSlice w s P (classFor n)) (pagesSlice w s P (pagesFor n))
+allocSlice w s P n = pick (eqb n 0) s (pick (leb n 2048) (classSlice w s P (classFor n)) (pagesSlice w s P (pagesFor n)))

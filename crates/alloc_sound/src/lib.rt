@@ -1,5 +1,5 @@
-// Alloc on sound records, from the top: a size is a chunk of a class or a number of pages, a chunk is of the class list's first page
-// or of a new one. `w` is the number of words of a class record, `pages` the pages of the pool.
+// Alloc on sound records, from the top: a size is nothing, a chunk of a class or a number of pages, a chunk is of the class list's
+// first page or of a new one. `w` is the number of words of a class record, `pages` the pages of the pool.
 use answers::Allocated;
 use answers::Offset;
 use answers::Refusal;
@@ -23,6 +23,9 @@ pub fn alloc_sound(pool: &mut [u8], w: u8, pages: u16, size: u32) -> Allocated
     ensures answer { λ r. ⌜ ofAlloc r ≡ allocOutcome w (now (pool .entry)) pages size ⌝ }
     ensures slice { λ _. ⌜ now (pool .exit) ≡ allocSlice w (now (pool .entry)) pages size ⌝ }
 {
+    if size == 0 {
+        return Allocated::Refused(Refusal::NothingAsked);
+    }
     if size <= LARGEST_CHUNK {
         alloc_small(pool, w, pages, size)
     } else {

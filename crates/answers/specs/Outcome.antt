@@ -9,7 +9,7 @@ use Rattle.answers.specs.declared.Freed.the-variants as freed
 use Rattle.answers.specs.declared.Batched.{Batched}
 use Rattle.answers.specs.declared.Batched.the-variants as batched
 use Rattle.answers.specs.declared.Refusal.{Refusal}
-use Rattle.answers.specs.declared.Refusal.the-variants.{TooShort, TooLong, NotSound, NoRoom, Outside, NotTaken, NotAStart, Unreadable, ScriptTooLong, AnswersTooShort}
+use Rattle.answers.specs.declared.Refusal.the-variants.{TooShort, TooLong, NotSound, NoRoom, Outside, NotTaken, NotAStart, Unreadable, ScriptTooLong, NothingAsked, AnswersTooShort}
 
 abbrev pub numberOf : Refusal → ℕ
 numberOf TooShort = 1
@@ -21,6 +21,7 @@ numberOf NotTaken = 6
 numberOf NotAStart = 7
 numberOf Unreadable = 8
 numberOf ScriptTooLong = 9
+numberOf NothingAsked = 10
 numberOf AnswersTooShort = 11
 
 pub record Outcome : Type 0 where

@@ -46,6 +46,8 @@ pub enum Refusal {
     Unreadable,
     // more script than the program reads
     ScriptTooLong,
+    // alloc: a size of 0
+    NothingAsked,
     // batch: fewer places for answers than requests
     AnswersTooShort,
 }
@@ -64,6 +66,7 @@ pub fn number(r: Refusal) -> u8
         Refusal::NotAStart => 7,
         Refusal::Unreadable => 8,
         Refusal::ScriptTooLong => 9,
+        Refusal::NothingAsked => 10,
         Refusal::AnswersTooShort => 11,
     }
 }

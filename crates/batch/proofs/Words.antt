@@ -9,7 +9,7 @@ use Rattle.words.specs.Word.{Bytes}
 use Rattle.answers.specs.Outcome.{Outcome, refused}
 use Rattle.answers.specs.declared.Refusal.the-variants.{NotSound}
 use Rattle.answer_words.specs.Word.{wordOf}
-use Rattle.model.specs.Classes.{Need, chunkOf, pages, needOf}
+use Rattle.model.specs.Classes.{Need, nothing, chunkOf, pages, needOf}
 use Rattle.model.specs.State.{State}
 use Rattle.model.specs.Calls.{Call, Alloc, Free, Answer, at, freed, no, step}
 use Rattle.model.specs.Effects.{Effect, AllocEffect, FreeEffect}
@@ -30,6 +30,7 @@ reads-back o h =
 
 offset-for : (x : Need) (off : ℕ) → offset (blockFor x off) ≡ off
 unfolding blockFor
+offset-for nothing off = refl
 offset-for (chunkOf c) off = refl
 offset-for (pages k) off = refl
 

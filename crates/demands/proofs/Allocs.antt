@@ -5,16 +5,16 @@ use mathlib.Core.Option.{Option, none, some}
 use mathlib.Core.List.{List, [], _∷_}
 use Prim.Native.Nat.{ℕ, _+_, _%_, _≤_, _<_}
 use native.Mathlib.Omega.{arith}
-use borrow.Author.Tests.{ne-eqb, le-leb, lt-leb}
+use borrow.Author.Tests.{eq-eqb, ne-eqb, le-leb, lt-leb}
 use Rattle.base.specs.Tests.{pick}
 use Rattle.base.specs.Links.{headOr}
-use Rattle.base.proofs.Cases.{lt?}
+use Rattle.base.proofs.Cases.{eq?, lt?}
 use Rattle.records.specs.Layout.{noPage}
 use Rattle.answers.specs.Outcome.{Outcome}
-use Rattle.model.specs.Classes.{chunk, lowest, classOf, pagesFor, chunkOf, pages, needOf}
+use Rattle.model.specs.Classes.{chunk, lowest, classOf, pagesFor, nothing, chunkOf, pages, needOf}
 use Rattle.model.specs.State.{Run, State, marksOf}
 use Rattle.model.specs.Runs.{fit}
-use Rattle.model.specs.Calls.{Reply, noRoom, refuse, tallied, allocRun, cutPage, markChunk, allocChunk, allocFor, alloc}
+use Rattle.model.specs.Calls.{Reply, noRoom, nothingAsked, refuse, tallied, allocRun, cutPage, markChunk, allocChunk, allocFor, alloc}
 use Rattle.model.proofs.Classes.{class-ok}
 use Rattle.lists.specs.Mirror.{firstOf}
 use Rattle.run_extents.specs.Mirror.{fitIn, runTaken}
@@ -81,8 +81,9 @@ module _ {w : ℕ} {s : List ℕ} {P : ℕ} {m : State} (F : AllocFacts w s P m)
 
   pub alloc-does : (n : ℕ) → Does w s (allocOutcome w s P n) (allocSlice w s P n) (alloc m n)
   unfolding allocOutcome allocSlice alloc needOf pick pagesFor
-  alloc-does n = go (lt? 2048 n)
+  alloc-does n = go (eq? n 0) (lt? 2048 n)
     where
-      go : (2048 < n) ⊎ (n ≤ 2048) → Does w s (allocOutcome w s P n) (allocSlice w s P n) (alloc m n)
-      go (inr h) = rw (le-leb n 2048 h, class-is n h) (class-does (classOf n) (class-ok n h))
-      go (inl h) = rw (lt-leb n 2048 h) (pages-does (pagesFor n) (omega arith))
+      go : (n ≡ 0) ⊎ (n ≢ 0) → (2048 < n) ⊎ (n ≤ 2048) → Does w s (allocOutcome w s P n) (allocSlice w s P n) (alloc m n)
+      go (inl z) t = rw (eq-eqb n 0 z) (unfold allocFor refuse nothingAsked in (record { answer = refl; slice = sym (F .same) }))
+      go (inr z) (inr h) = rw (ne-eqb n 0 z, le-leb n 2048 h, class-is n h) (class-does (classOf n) (class-ok n h))
+      go (inr z) (inl h) = rw (ne-eqb n 0 z, lt-leb n 2048 h) (pages-does (pagesFor n) (omega arith))

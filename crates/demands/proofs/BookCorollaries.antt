@@ -13,7 +13,7 @@ use Rattle.base.proofs.Count.{sum-zero}
 use Rattle.base.proofs.Lists.{mem-keep}
 use Rattle.words.specs.Word.{Bytes}
 use Rattle.answers.specs.Outcome.{granted}
-use Rattle.model.specs.Classes.{Need, chunkOf, pages, needOf}
+use Rattle.model.specs.Classes.{Need, nothing, chunkOf, pages, needOf}
 use Rattle.model.specs.Calls.{Call, Alloc, Free, fresh}
 use Rattle.model.specs.Live.{Block, offset, blockFor, elsewhere, runFrom, begin}
 use Rattle.model.specs.View.{View, totalIn, shown}
@@ -80,6 +80,7 @@ none-live P h =
 
 offset-for : (x : Need) (off : ℕ) → offset (blockFor x off) ≡ off
 unfolding blockFor
+offset-for nothing off = refl
 offset-for (chunkOf c) off = refl
 offset-for (pages k) off = refl
 

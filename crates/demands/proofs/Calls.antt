@@ -14,14 +14,14 @@ use Rattle.base.proofs.AllBelow.{pick-yes, pick-no}
 use Rattle.words.specs.Word.{Bytes}
 use Rattle.records.specs.Layout.{mapPlace, pagesFrom, pageCount}
 use Rattle.answers.specs.Outcome.{Outcome, granted, refused}
-use Rattle.answers.specs.declared.Refusal.the-variants.{NotSound}
+use Rattle.answers.specs.declared.Refusal.the-variants.{NotSound, NothingAsked}
 use Rattle.maps.specs.Bitmap.{withMark}
 use Rattle.maps.proofs.Marks.{length-withMark, withMark-bytes, withMark-outside}
 use Rattle.base.specs.Functions.{upd}
-use Rattle.model.specs.Classes.{chunk, chunks, own, hasTaken, startsChunk, Need, chunkOf, pages, needOf}
+use Rattle.model.specs.Classes.{chunk, chunks, own, hasTaken, startsChunk, Need, nothing, chunkOf, pages, needOf}
 use Rattle.model.specs.State.{Page, idle, slab, taken, inside, edge, State}
 use Rattle.model.specs.WellFormed.{ClassOk, WellFormed}
-use Rattle.model.specs.Calls.{Call, Alloc, Free, Answer, at, freed, no, noRoom, outside, notTaken, notAStart, refuse, tallied, freeChunk, freeAt, free, step}
+use Rattle.model.specs.Calls.{Call, Alloc, Free, Answer, at, freed, no, noRoom, outside, notTaken, notAStart, nothingAsked, refuse, tallied, allocFor, alloc, freeChunk, freeAt, free, step}
 use Rattle.model.specs.Live.{Block, offset, extent, Off, Live}
 use Rattle.model.specs.Effects.{Effect, FreeEffect}
 use Rattle.model.specs.View.{View, Kind, vacant, class, runOf, within, shown}
@@ -58,10 +58,11 @@ numbered-if true a b h k = h
 numbered-if false a b h k = k
 
 numbered : (v : View) (call : Call) → Numbered (ruling v call)
-unfolding ruling allocRuling freeRuling noRoom outside notTaken notAStart
+unfolding ruling allocRuling freeRuling noRoom outside notTaken notAStart nothingAsked
 numbered v (Alloc n) = go (needOf n)
   where
     go : (x : Need) → Numbered (allocRuling v x)
+    go nothing = omega arith
     go (chunkOf c) = numbered-if (clearIn v c || pageIn v) allowed (denied 4) tt (omega arith)
     go (pages k) = numbered-if (runIn v k) allowed (denied 4) tt (omega arith)
 numbered v (Free off) = numbered-if (pastEnd v off) (denied 5) _ (omega arith) (go (v .page (off / 4096)))
@@ -207,6 +208,10 @@ module _ (w : ℕ) (wide : 2 ≤ w) (narrow : w ≤ 255) (s : List ℕ) (B : Byt
       refusal-number k e = ap (λ (o : Outcome). o .number) sound-answer ∙ ap (λ (x : Answer). outcome x .number) e
 
     -- ---- refused calls
+    nothing-asked : (answered w s (Alloc 0) ≡ refused NothingAsked) × (after w s (Alloc 0) ≡ s)
+    unfolding cleared step alloc needOf allocFor refuse nothingAsked
+    nothing-asked = (sound-answer (Alloc 0), drawn-after (Alloc 0) ∙ L .sound-drawn sound)
+
     refused-run : (n k : ℕ) → needOf n ≡ pages k → answered w s (Alloc n) .number ≢ 0 → after w s (Alloc n) ≡ s
     unfolding cleared
     refused-run n k e d =
@@ -398,6 +403,7 @@ module _ (w : ℕ) (wide : 2 ≤ w) (narrow : w ≤ 255) (s : List ℕ) (B : Byt
         (λ e. subst Bytes (sym (drawn-after e call)) (N e call .drawn-bytes (step m call .after) (G e call)))
         (λ d. subst Bytes (sym (unsound-after d call)) B);
     unsound = λ d call. (unsound-answer d call, unsound-after d call);
+    nothing-asked = nothing-asked;
     refused-run = λ n k h z. either (λ e. refused-run e n k h z) (λ d. unsound-after d (Alloc n));
     refused-chunk = λ n c e. refused-chunk e n c;
     refused-free = λ off z. either (λ e. refused-free e off z) (λ d. unsound-after d (Free off));

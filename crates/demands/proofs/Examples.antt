@@ -11,7 +11,7 @@ use Rattle.base.specs.Tests.{pick}
 use Rattle.base.proofs.Cases.{and-true, lt?}
 use Rattle.words.specs.Word.{Bytes}
 use Rattle.records.specs.Class.{classAt}
-use Rattle.model.specs.Classes.{maxPages, Need, chunkOf, pages, needOf}
+use Rattle.model.specs.Classes.{maxPages, Need, nothing, chunkOf, pages, needOf}
 use Rattle.model.specs.State.{State}
 use Rattle.model.specs.Calls.{Call, fresh, step}
 use Rattle.model.specs.Live.{World, next, runFrom, begin}
@@ -96,6 +96,7 @@ module _ (slice : ℕ → List ℕ) (ok : (P : ℕ) → 1 ≤ P → P ≤ maxPag
   seen-is (sized n) t = want-is (needOf n)
     where
       want-is : (x : Need) → want (needed x) ≡ asSeen (needed x)
+      want-is nothing = refl
       want-is (chunkOf c) = refl
       want-is (pages k) = refl
   seen-is (replies P cs) t =

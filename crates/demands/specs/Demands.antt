@@ -11,7 +11,7 @@ use Rattle.base.specs.Lists.{Mem, NoDup, keep}
 use Rattle.words.specs.Word.{Bytes}
 use Rattle.records.specs.Layout.{pagesFrom}
 use Rattle.answers.specs.Outcome.{Outcome, granted, refused}
-use Rattle.answers.specs.declared.Refusal.the-variants.{NotSound}
+use Rattle.answers.specs.declared.Refusal.the-variants.{NotSound, NothingAsked}
 use Rattle.model.specs.Classes.{chunkOf, pages, needOf}
 use Rattle.model.specs.Calls.{Call, Alloc, Free, tallied, step}
 use Rattle.model.specs.Live.{Block, offset, extent, Disjoint, Live, BlocksPlaced, blockFor, elsewhere}
@@ -42,6 +42,8 @@ pub record Demand1 (w : ℕ) (s : List ℕ) : Type 0 where
   pub bytes-kept : (call : Call) → Bytes (after w s call)
   -- unsound records are refused with 3 and nothing changes
   pub unsound : brokenRule w s ≢ 0 → (call : Call) → (answered w s call ≡ refused NotSound) × (after w s call ≡ s)
+  -- nothing asked is refused as such, and changes nothing
+  pub nothing-asked : brokenRule w s ≡ 0 → (answered w s (Alloc 0) ≡ refused NothingAsked) × (after w s (Alloc 0) ≡ s)
   -- a refused call leaves the slice as it was, but for the tally of a refused chunk
   pub refused-run : (n k : ℕ) → needOf n ≡ pages k → answered w s (Alloc n) .number ≢ 0 → after w s (Alloc n) ≡ s
   pub refused-chunk : (n c : ℕ) → brokenRule w s ≡ 0 → needOf n ≡ chunkOf c → answered w s (Alloc n) .number ≢ 0 →

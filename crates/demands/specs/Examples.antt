@@ -9,7 +9,7 @@ use Rattle.answers.specs.Outcome.{Outcome, granted}
 use Rattle.model.specs.Classes.{maxPages, needOf}
 use Rattle.model.specs.State.{Run}
 use Rattle.model.specs.Calls.{Call}
-use Rattle.model.specs.Examples.{Question, formats, sized, replies, tallyAfter, runsAfter, Fact, pool, noPool, aChunk, somePages, answers, counts, freeRuns, Example, needed, examples}
+use Rattle.model.specs.Examples.{Question, formats, sized, replies, tallyAfter, runsAfter, Fact, pool, noPool, noBlock, aChunk, somePages, answers, counts, freeRuns, Example, needed, examples}
 use Rattle.format.specs.Format.{shortest, tooLong, formatOutcome, formatted}
 use Rattle.rules.specs.Bytes.{pagesIn, read}
 use Rattle.demands.specs.Calls.{outcome, answered, after}
@@ -41,6 +41,7 @@ seen slice (runsAfter P cs) = runs (read 2 (sliceAfter 2 (formatted 2 (slice P))
 abbrev pub asSeen : Fact → Seen
 asSeen (pool P) = outcomes (granted P ∷ [])
 asSeen (noPool k) = outcomes (record { number = k; value = 0 } ∷ [])
+asSeen noBlock = want noBlock
 asSeen (aChunk n) = want (aChunk n)
 asSeen (somePages n) = want (somePages n)
 asSeen (answers rs) = outcomes (map outcome rs)

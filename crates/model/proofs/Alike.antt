@@ -4,7 +4,7 @@ use mathlib.Core.Logic.{_⊎_, inl, inr, _≢_, _↔_}
 use mathlib.Core.List.{List}
 use Prim.Native.Nat.{ℕ, _-_, _*_, _/_, _%_}
 use native.Mathlib.Omega.{arith}
-use Rattle.model.specs.Classes.{chunk, Need, chunkOf, pages, needOf}
+use Rattle.model.specs.Classes.{chunk, Need, nothing, chunkOf, pages, needOf}
 use Rattle.model.specs.State.{Page, slab, taken, State}
 use Rattle.model.specs.WellFormed.{WellFormed}
 use Rattle.model.specs.Calls.{Alloc, Free, freed, fresh, freeAt, free, step}
@@ -125,6 +125,7 @@ module _ (s t : State) (ws : WellFormed s) (wt : WellFormed t) (size : t .size �
 
 block-offset : (need : Need) (off : ℕ) → offset (blockFor need off) ≡ off
 unfolding blockFor
+block-offset nothing off = refl
 block-offset (chunkOf c) off = refl
 block-offset (pages k) off = refl
 

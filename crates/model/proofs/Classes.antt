@@ -7,11 +7,11 @@ use native.Mathlib.Nat.{mul-le-mul-left, div-add-mod', mul-div-right, mul-mod-ri
 use native.Mathlib.Omega.{arith}
 use lib.Dec.{eqb, leb, ltb}
 use lib.Pow.{pow-pos, pow-mono}
-use borrow.Author.Tests.{ltb-true, leb-true, leb-false, eqb-true, not-true, not-false, le-leb, eq-eqb, ne-eqb}
+use borrow.Author.Tests.{ltb-true, leb-true, leb-false, eqb-true, eqb-false, not-true, not-false, le-leb, eq-eqb, ne-eqb}
 use Rattle.base.specs.Search.{least, any}
-use Rattle.base.proofs.Cases.{clash, lt?, and-true}
+use Rattle.base.proofs.Cases.{clash, lt?, and-true, cond-case}
 use Rattle.base.proofs.Search.{Least, least-spec, any-true, any-false, any-at}
-use Rattle.model.specs.Classes.{maxPages, chunk, chunks, own, lowest, hasClear, hasTaken, startsChunk, classOf, pagesFor, Need, chunkOf, pages, needOf}
+use Rattle.model.specs.Classes.{maxPages, chunk, chunks, own, lowest, hasClear, hasTaken, startsChunk, classOf, pagesFor, Need, nothing, chunkOf, pages, needOf}
 
 -- ---- numbers
 
@@ -131,16 +131,17 @@ starts-chunk c i o = (rw (mul-mod-right (chunk c) i, mul-div-right i (chunk-pos 
 
 -- a class of the nine, or at least one page
 abbrev pub NeedOk : Need → Type 0
+NeedOk nothing = Unit {0}
 NeedOk (chunkOf c) = c ≤ 8
 NeedOk (pages k) = 1 ≤ k
 
 pub need-ok : (n : ℕ) → NeedOk (needOf n)
 unfolding needOf pagesFor
-need-ok n = go (leb n 2048) refl
+need-ok n = cond-case NeedOk (eqb n 0) (λ _. tt) (λ e. go (eqb-false n 0 e) (leb n 2048) refl)
   where
-    go : (t : Bool) → leb n 2048 ≡ t → NeedOk (cond t (chunkOf (classOf n)) (pages (pagesFor n)))
-    go true e = class-ok n (leb-true n 2048 e)
-    go false e = omega (arith, leb-false n 2048 e)
+    go : n ≢ 0 → (t : Bool) → leb n 2048 ≡ t → NeedOk (cond t (chunkOf (classOf n)) (pages (pagesFor n)))
+    go z true e = class-ok n (leb-true n 2048 e)
+    go z false e = omega (arith, leb-false n 2048 e)
 
 -- ---- classes 8, 16 and 32 keep the bitmap in the page, the others in its record
 

@@ -8,7 +8,7 @@ use Prim.Native.Nat.{ℕ, _+_, _-_, _/_, _%_, _≤_, _<_}
 use native.Mathlib.Omega.{arith}
 use lib.Dec.{eqb}
 use Rattle.base.proofs.Cases.{clash, never, decided, cond-case}
-use Rattle.model.specs.Classes.{chunk, startsChunk}
+use Rattle.model.specs.Classes.{chunk, startsChunk, needOf}
 use Rattle.model.specs.State.{Page, idle, slab, taken, inside, edge, Run, State, isIdle, isOpen}
 use Rattle.model.specs.Runs.{fit}
 use Rattle.model.specs.WellFormed.{WellFormed}
@@ -138,8 +138,9 @@ module _ (s : State) where
   free-leaves p q edge = refuse-leaves outside
 
 pub refusals : (s : State) → Refusals s
-unfolding step alloc allocFor free
+unfolding step alloc needOf allocFor free
 refusals s = record {
+  nothing = refl;
   chunk = λ n c k h. rw h (chunk-left s c k (s .lists c));
   run = λ n j k h. rw h (run-refused s j k (fit j (s .runs)));
   free = λ off. free-leaves s (off / 4096) (off % 4096) (s .page (off / 4096)) .same;

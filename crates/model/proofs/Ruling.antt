@@ -12,7 +12,7 @@ use Rattle.base.specs.Search.{any}
 use Rattle.base.specs.Lists.{Mem}
 use Rattle.base.proofs.Cases.{never, decided, cond-case}
 use Rattle.base.proofs.Search.{any-some, any-at}
-use Rattle.model.specs.Classes.{chunk, chunks, hasClear, startsChunk, Need, chunkOf, pages, needOf}
+use Rattle.model.specs.Classes.{chunk, chunks, hasClear, startsChunk, Need, nothing, chunkOf, pages, needOf}
 use Rattle.model.specs.State.{Page, idle, slab, taken, inside, edge, Run, State, marksOf, isOpen}
 use Rattle.model.specs.Runs.{fit, startsAt}
 use Rattle.model.specs.WellFormed.{WellFormed}
@@ -121,7 +121,8 @@ module _ (s : State) (wf : WellFormed s) where
   run-ruled k pos (some r) e = rw (run-seen k r e pos)
 
   need-ruled : (need : Need) → NeedOk need → verdict (allocFor s need .answer) ≡ allocRuling (shown s) need
-  unfolding allocFor
+  unfolding allocFor refuse allocRuling
+  need-ruled nothing ok = refl
   need-ruled (chunkOf c) ok = chunk-ruled c (s .lists c) refl
   need-ruled (pages k) ok = run-ruled k ok (fit k (s .runs)) refl
 

@@ -10,7 +10,7 @@ use lib.Dec.{eqb}
 use borrow.Author.Tests.{eqb-true}
 use Rattle.base.specs.Functions.{upd}
 use Rattle.base.proofs.Cases.{cond-case}
-use Rattle.model.specs.Classes.{chunk, chunks, own, hasTaken, startsChunk, Need, chunkOf, pages, needOf}
+use Rattle.model.specs.Classes.{chunk, chunks, own, hasTaken, startsChunk, Need, nothing, chunkOf, pages, needOf}
 use Rattle.model.specs.State.{Page, idle, slab, taken, inside, edge, Run, State}
 use Rattle.model.specs.Runs.{fit}
 use Rattle.model.specs.WellFormed.{WellFormed}
@@ -78,7 +78,8 @@ module _ (s : State) (wf : WellFormed s) where
       })
 
   need-kept : (need : Need) → NeedOk need → Kept s (AllocEffect need) (allocFor s need)
-  unfolding allocFor
+  unfolding allocFor refuse AllocEffect
+  need-kept nothing ok = record { well = wf; size = refl; effect = refl; slabs = stay (s .page) }
   need-kept (chunkOf c) ok = chunk-kept c ok (s .lists c) refl
   need-kept (pages k) ok = run-kept k ok (fit k (s .runs)) refl
 

@@ -5,11 +5,11 @@ use mathlib.Core.List.{List, [], _∷_}
 use Prim.Native.Nat.{ℕ, suc, _+_, _*_, _/_, _%_}
 use lib.Dec.{eqb, ltb}
 use Rattle.answers.specs.Outcome.{numberOf}
-use Rattle.answers.specs.declared.Refusal.the-variants.{NoRoom, Outside, NotTaken, NotAStart}
+use Rattle.answers.specs.declared.Refusal.the-variants.{NoRoom, Outside, NotTaken, NotAStart, NothingAsked}
 use Rattle.base.specs.Functions.{upd, fill}
 use Rattle.base.specs.Lists.{keep}
 use Rattle.base.specs.Links.{others}
-use Rattle.model.specs.Classes.{chunk, own, lowest, hasClear, hasTaken, newMarks, startsChunk, Need, chunkOf, pages, needOf}
+use Rattle.model.specs.Classes.{chunk, own, lowest, hasClear, hasTaken, newMarks, startsChunk, Need, nothing, chunkOf, pages, needOf}
 use Rattle.model.specs.State.{Page, idle, slab, taken, inside, edge, Run, most, Tally, State, marksOf}
 use Rattle.model.specs.Runs.{fit, carve, joinRuns}
 
@@ -39,6 +39,9 @@ notTaken = numberOf NotTaken
 
 unfoldable pub notAStart : ℕ
 notAStart = numberOf NotAStart
+
+unfoldable pub nothingAsked : ℕ
+nothingAsked = numberOf NothingAsked
 
 unfoldable pub refuse : (s : State) (k : ℕ) → Reply
 refuse s k = record { answer = no k; after = s }
@@ -128,6 +131,7 @@ allocChunk s c [] = cutPage s c (fit 1 (s .runs))
 allocChunk s c (p ∷ rest) = markChunk s c p rest (marksOf (s .page p))
 
 unfoldable pub allocFor : State → Need → Reply
+allocFor s nothing = refuse s nothingAsked
 allocFor s (chunkOf c) = allocChunk s c (s .lists c)
 allocFor s (pages k) = allocRun s k (fit k (s .runs))
 

@@ -8,7 +8,7 @@ use Rattle.base.specs.Lists.{Mem, NoDup}
 use Rattle.model.specs.Classes.{chunk, chunks, own, chunkOf, pages, needOf}
 use Rattle.model.specs.State.{Page, idle, slab, State, isOpen}
 use Rattle.model.specs.WellFormed.{Stretch, WellFormed}
-use Rattle.model.specs.Calls.{Call, Alloc, Free, Answer, at, freed, no, Reply, noRoom, fresh, tallied, step}
+use Rattle.model.specs.Calls.{Call, Alloc, Free, Answer, at, freed, no, Reply, noRoom, nothingAsked, refuse, fresh, tallied, step}
 use Rattle.model.specs.Live.{Block, small, large, offset, extent, Disjoint, Off, Live, blocks, BlocksPlaced, blockFor, LiveSet, World, runFrom, begin}
 use Rattle.model.specs.Effects.{Effect, SlabsFrom, Stays, without}
 use Rattle.model.specs.View.{vacant, class, runOf, within, shown}
@@ -107,6 +107,7 @@ PagesRefusedShown = (s : State) → WellFormed s → (n k : ℕ) → needOf n �
 
 -- a refused call leaves the state as it was, but for the tally of a refused chunk
 pub record Refusals (s : State) : Type 0 where
+  pub nothing : step s (Alloc 0) ≡ refuse s nothingAsked
   pub chunk : (n c k : ℕ) → needOf n ≡ chunkOf c → step s (Alloc n) .answer ≡ no k → step s (Alloc n) .after ≡ tallied s c
   pub run : (n j k : ℕ) → needOf n ≡ pages j → step s (Alloc n) .answer ≡ no k → step s (Alloc n) .after ≡ s
   pub free : (off k : ℕ) → step s (Free off) .answer ≡ no k → step s (Free off) .after ≡ s

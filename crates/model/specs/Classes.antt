@@ -52,7 +52,7 @@ startsChunk c q = eqb (q % chunk c) 0 && leb (own c) (q / chunk c)
 
 -- ---- sizes
 
--- the smallest class whose chunk holds n bytes, for n up to 2,048
+-- the smallest class whose chunk holds n bytes, for n from 1 to 2,048
 unfoldable pub classOf : ℕ → ℕ
 classOf n = least (λ c. leb n (chunk c)) 9
 
@@ -60,10 +60,11 @@ classOf n = least (λ c. leb n (chunk c)) 9
 unfoldable pub pagesFor : ℕ → ℕ
 pagesFor n = (n + 4095) / 4096
 
--- what a size asks for: a chunk of a class, or so many pages
+-- what a size asks for: nothing, a chunk of a class, or so many pages
 pub data Need : Type 0 where
+  nothing : Need
   chunkOf : ℕ → Need
   pages : ℕ → Need
 
 unfoldable pub needOf : ℕ → Need
-needOf n = cond (leb n 2048) (chunkOf (classOf n)) (pages (pagesFor n))
+needOf n = cond (eqb n 0) nothing (cond (leb n 2048) (chunkOf (classOf n)) (pages (pagesFor n)))

@@ -6,7 +6,7 @@ use Prim.Native.Nat.{ℕ, _-_, _/_}
 use lib.Dec.{ltb}
 use Rattle.answers.specs.Outcome.{numberOf}
 use Rattle.answers.specs.declared.Refusal.the-variants.{TooShort, TooLong}
-use Rattle.model.specs.Classes.{maxPages, chunk, Need, chunkOf, pages, needOf}
+use Rattle.model.specs.Classes.{maxPages, chunk, Need, nothing, chunkOf, pages, needOf}
 use Rattle.model.specs.State.{Run, Tally, State}
 use Rattle.model.specs.Calls.{Call, Alloc, Free, Answer, at, freed, no, fresh, step}
 use Rattle.model.specs.Live.{runFrom, begin}
@@ -21,6 +21,7 @@ pub data Question : Type 0 where
 pub data Fact : Type 0 where
   pool : ℕ → Fact  -- a pool of so many pages
   noPool : ℕ → Fact  -- refused with this number
+  noBlock : Fact
   aChunk : ℕ → Fact  -- of so many bytes
   somePages : ℕ → Fact
   answers : List Answer → Fact
@@ -36,6 +37,7 @@ unfoldable pub made : ℕ → Fact
 made P = cond (ltb P 1) (noPool (numberOf TooShort)) (cond (ltb maxPages P) (noPool (numberOf TooLong)) (pool P))
 
 abbrev pub needed : Need → Fact
+needed nothing = noBlock
 needed (chunkOf c) = aChunk (chunk c)
 needed (pages k) = somePages k
 
@@ -71,7 +73,6 @@ examples =
     record { question = formats 1056936; fact = pool 257 } ∷
     record { question = formats 16847015; fact = pool 4096 } ∷
     record { question = formats 16847016; fact = noPool 2 } ∷
-    record { question = sized 0; fact = aChunk 8 } ∷
     record { question = sized 1; fact = aChunk 8 } ∷
     record { question = sized 8; fact = aChunk 8 } ∷
     record { question = sized 9; fact = aChunk 16 } ∷
@@ -96,8 +97,8 @@ examples =
     record { question = runsAfter 12 outerFreed; fact = freeRuns (record { start = 2; len = 10 } ∷ record { start = 0; len = 1 } ∷ []) } ∷
     record { question = replies 12 (Alloc 8192 ∷ Free 4096 ∷ Free 0 ∷ []); fact = answers (at 0 ∷ no 7 ∷ freed 8192 ∷ []) } ∷
     record { question = replies 12 (Free 49151 ∷ Free 49152 ∷ []); fact = answers (no 6 ∷ no 5 ∷ []) } ∷
-    record { question = replies 12 wholeCase; fact = answers (at 32 ∷ at 4096 ∷ at 8192 ∷ freed 32 ∷ no 6 ∷ at 64 ∷ []) } ∷
-    record { question = runsAfter 12 wholeCase; fact = freeRuns (record { start = 4; len = 8 } ∷ []) } ∷
+    record { question = replies 12 wholeCase; fact = answers (at 32 ∷ at 4096 ∷ at 8192 ∷ freed 32 ∷ no 6 ∷ no 10 ∷ []) } ∷
+    record { question = runsAfter 12 wholeCase; fact = freeRuns (record { start = 0; len = 1 } ∷ record { start = 4; len = 8 } ∷ []) } ∷
     []
 
 abbrev pub ExamplesHold : Type 0

@@ -6,7 +6,7 @@ use mathlib.Core.List.{List, [], _∷_, _++_}
 use Prim.Native.Nat.{ℕ, zero, suc, _+_, _*_, _≤_, _<_}
 use lib.Dec.{eqb, leb}
 use Rattle.base.specs.Lists.{Mem, NoDup, keep}
-use Rattle.model.specs.Classes.{chunk, chunks, own, Need, chunkOf, pages, needOf}
+use Rattle.model.specs.Classes.{chunk, chunks, own, Need, nothing, chunkOf, pages, needOf}
 use Rattle.model.specs.State.{Page, idle, slab, taken, inside, edge, State}
 use Rattle.model.specs.Calls.{Call, Alloc, Free, Answer, at, freed, no, fresh, step}
 
@@ -74,8 +74,9 @@ Rising a (e ∷ B) = (a ≤ offset e) × Rising (offset e + 1) B
 
 -- ---- of calls and answers
 
--- the block that a granted alloc adds
+-- the block that a granted alloc adds; nothing is never granted
 unfoldable pub blockFor : Need → ℕ → Block
+blockFor nothing off = large off 0
 blockFor (chunkOf c) off = small off c
 blockFor (pages k) off = large off k
 

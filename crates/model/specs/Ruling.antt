@@ -3,8 +3,8 @@ use mathlib.Core.Bool.{Bool, cond, _&&_, _||_, not}
 use Prim.Native.Nat.{ℕ, _*_, _/_, _%_}
 use lib.Dec.{eqb, leb}
 use Rattle.base.specs.Search.{any}
-use Rattle.model.specs.Classes.{chunk, chunks, startsChunk, Need, chunkOf, pages, needOf}
-use Rattle.model.specs.Calls.{Call, Alloc, Free, Answer, at, freed, no, noRoom, outside, notTaken, notAStart}
+use Rattle.model.specs.Classes.{chunk, chunks, startsChunk, Need, nothing, chunkOf, pages, needOf}
+use Rattle.model.specs.Calls.{Call, Alloc, Free, Answer, at, freed, no, noRoom, outside, notTaken, notAStart, nothingAsked}
 use Rattle.model.specs.View.{Kind, vacant, class, runOf, within, View, isVacant, isClass}
 
 pub data Verdict : Type 0 where
@@ -29,6 +29,7 @@ unfoldable pub runIn : (v : View) (k : ℕ) → Bool
 runIn v k = any (λ p. leb k (v .freeRun p)) (v .size)
 
 unfoldable pub allocRuling : View → Need → Verdict
+allocRuling v nothing = refused nothingAsked
 allocRuling v (chunkOf c) = cond (clearIn v c || pageIn v) granted (refused noRoom)
 allocRuling v (pages k) = cond (runIn v k) granted (refused noRoom)
 

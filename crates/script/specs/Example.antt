@@ -19,5 +19,5 @@ WholeCase =
     printout (
     line takeWord 30 ++ (line takeWord 64 ++ (line takeWord 5000 ++ (line giveWord 32 ++ (line giveWord 32 ++ line takeWord 0)))))
     ≡
-    line poolWord 12 ++ (line atWord 32 ++ (line atWord 4096 ++ (line atWord 8192 ++ (line backWord 32 ++ (line noWord 6 ++ (line atWord 64 ++
-    summaryLine 8 1))))))
+    line poolWord 12 ++ (line atWord 32 ++ (line atWord 4096 ++ (line atWord 8192 ++ (line backWord 32 ++ (line noWord 6 ++ (line noWord 10 ++
+    summaryLine 9 2))))))

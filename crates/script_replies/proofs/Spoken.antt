@@ -8,7 +8,7 @@ use lib.ListN.{length}
 use Rattle.base.specs.Tests.{pick}
 use Rattle.answers.specs.Outcome.{Outcome, numberOf, granted, refused}
 use Rattle.answers.specs.declared.Refusal.{Refusal}
-use Rattle.answers.specs.declared.Refusal.the-variants.{TooShort, TooLong, NotSound, NoRoom, Outside, NotTaken, NotAStart, Unreadable, ScriptTooLong, AnswersTooShort}
+use Rattle.answers.specs.declared.Refusal.the-variants.{TooShort, TooLong, NotSound, NoRoom, Outside, NotTaken, NotAStart, Unreadable, ScriptTooLong, NothingAsked, AnswersTooShort}
 use Rattle.printing.specs.Text.{line, written, Prints}
 use Rattle.script_replies.specs.Replies.{noWord, refusalLine, outcomeLine}
 
@@ -22,6 +22,7 @@ refusal-counts NotTaken = refl
 refusal-counts NotAStart = refl
 refusal-counts Unreadable = refl
 refusal-counts ScriptTooLong = refl
+refusal-counts NothingAsked = refl
 refusal-counts AnswersTooShort = refl
 
 module _ (s u : List ℕ) (n m : ℕ) where

@@ -139,7 +139,7 @@ impl<'a> Pool<'a> {
         check(self.bytes)
     }
 
-    /// Takes a block of at least `size` bytes. Size 0 counts as 1.
+    /// Takes a block of at least `size` bytes.
     ///
     /// Sizes up to 2,048 take a chunk of the smallest class that holds them,
     /// larger ones whole pages.
@@ -150,6 +150,7 @@ impl<'a> Pool<'a> {
     /// counted in its class's asks and failures:
     ///
     /// - [`Refusal::NotSound`]: the records break a rule
+    /// - [`Refusal::NothingAsked`]: the size is 0
     /// - [`Refusal::NoRoom`]: no free chunk and no free page, or no run long
     ///   enough
     ///
@@ -163,6 +164,7 @@ impl<'a> Pool<'a> {
     /// assert_eq!(pool.alloc(2_048), Ok(Offset(0)));
     /// assert_eq!(pool.alloc(1_500), Ok(Offset(2_048)));
     /// assert_eq!(pool.alloc(1), Err(Refusal::NoRoom));
+    /// assert_eq!(pool.alloc(0), Err(Refusal::NothingAsked));
     /// # Ok::<(), Refusal>(())
     /// ```
     pub fn alloc(&mut self, size: u32) -> Result<Offset, Refusal> {

@@ -29,11 +29,13 @@ pub enum Refusal {
     NotAStart = 7,
     /// In a batch: a request with stray bits.
     Unreadable = 8,
+    /// Alloc: the size is 0.
+    NothingAsked = 10,
     /// Batch: fewer answers than requests.
     AnswersTooShort = 11,
 }
 
-const ALL: [Refusal; 9] = [
+const ALL: [Refusal; 10] = [
     Refusal::TooShort,
     Refusal::TooLong,
     Refusal::NotSound,
@@ -42,6 +44,7 @@ const ALL: [Refusal; 9] = [
     Refusal::NotTaken,
     Refusal::NotAStart,
     Refusal::Unreadable,
+    Refusal::NothingAsked,
     Refusal::AnswersTooShort,
 ];
 
@@ -75,6 +78,7 @@ impl Refusal {
             Refusal::NotTaken => "not taken",
             Refusal::NotAStart => "not a start",
             Refusal::Unreadable => "unreadable",
+            Refusal::NothingAsked => "nothing asked",
             Refusal::AnswersTooShort => "answers too short",
         }
     }

@@ -180,6 +180,7 @@ struct Seen {
     unsound: usize,
     requests: usize,
     stray: usize,
+    nothing: usize,
 }
 
 fn play(seed: u64, pages: usize, batches: usize, seen: &mut Seen) {
@@ -203,8 +204,11 @@ fn play(seed: u64, pages: usize, batches: usize, seen: &mut Seen) {
                 assert_eq!(broken_rule(&end.pool), 0, "{place}{}", print());
                 seen.done += 1;
                 seen.requests += case.requests.len();
-                let answered = end.answers.iter().take(case.requests.len());
-                seen.stray += answered.filter(|&&answer| answer == 8 << 56).count();
+                let answered = &end.answers[..case.requests.len()];
+                let refused =
+                    |number: u64| answered.iter().filter(move |&&word| word == number << 56);
+                seen.stray += refused(8).count();
+                seen.nothing += refused(10).count();
             }
             number => {
                 assert!(end == case, "{place}: refused and changed{}", print());
@@ -235,7 +239,7 @@ fn batches_in_small_pools() {
     }
     println!("{seen:?}");
     assert!(seen.done > 3_000 && seen.requests > 90_000 && seen.stray > 9_000);
-    assert!(seen.too_short > 500 && seen.unsound > 500);
+    assert!(seen.too_short > 500 && seen.unsound > 500 && seen.nothing > 300);
 }
 
 #[test]
@@ -264,13 +268,26 @@ fn an_empty_batch_is_refused_on_an_unsound_pool() {
 }
 
 #[test]
+fn nothing_is_refused_and_the_next_is_served() {
+    let mut pool = vec![0; length(1)];
+    let mut pool = Pool::new(&mut pool);
+    pool.format().expect("a length that holds pages");
+    let requests = [8, 0, 8, 0].map(Request::alloc);
+    let mut answers = [Answer::default(); 4];
+    assert_eq!(pool.batch(&requests, &mut answers), Ok(()));
+    let nothing = Err(Refusal::NothingAsked);
+    let given = answers.map(Answer::value);
+    assert_eq!(given, [Ok(64), nothing, Ok(72), nothing]);
+}
+
+#[test]
 fn too_few_places_come_before_an_unsound_pool() {
     let refused = Pool::new(&mut []).batch(&[Request::alloc(1)], &mut []);
     assert_eq!(refused, Err(Refusal::AnswersTooShort));
 }
 
 /// Programs with one fault each: the second program's batch, done wrong.
-const DOUBLES: [(&str, Program); 7] = [
+const DOUBLES: [(&str, Program); 8] = [
     ("tries 3 before 11", |pool, requests, answers| {
         if broken_rule(pool) != 0 {
             return 3 << 56;
@@ -282,6 +299,14 @@ const DOUBLES: [(&str, Program); 7] = [
             .iter()
             .position(|&word| read_request(word).is_none());
         let served = stray.map_or(requests.len(), |at| at + 1);
+        if answers.len() < requests.len() {
+            return 11 << 56;
+        }
+        second(pool, &requests[..served], answers)
+    }),
+    ("ends at a take of nothing", |pool, requests, answers| {
+        let nothing = requests.iter().position(|&word| word == 0);
+        let served = nothing.map_or(requests.len(), |at| at + 1);
         if answers.len() < requests.len() {
             return 11 << 56;
         }

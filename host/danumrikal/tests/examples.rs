@@ -40,6 +40,6 @@ fn the_whole_case() {
     assert_eq!(pool.alloc(5_000), Ok(Offset(8_192)));
     assert_eq!(pool.free(Offset(32)), Ok(32));
     assert_eq!(pool.free(Offset(32)), Err(Refusal::NotTaken));
-    assert_eq!(pool.alloc(0), Ok(Offset(64)));
+    assert_eq!(pool.alloc(0), Err(Refusal::NothingAsked));
     assert_eq!(pool.check(), Ok(()));
 }

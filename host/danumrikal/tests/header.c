@@ -47,6 +47,7 @@ int main(void)
     EXPECT(has_name(6, "not taken"));
     EXPECT(has_name(7, "not a start"));
     EXPECT(has_name(8, "unreadable"));
+    EXPECT(has_name(10, "nothing asked"));
     EXPECT(has_name(11, "answers too short"));
     EXPECT(has_name(12, "unknown"));
 
@@ -63,21 +64,22 @@ int main(void)
     answer = dnk_alloc(pool, len, 1);
     EXPECT(answer == refused(DNK_NO_ROOM));
     EXPECT(dnk_refusal_of(answer) == DNK_NO_ROOM && dnk_value_of(answer) == 0);
+    EXPECT(dnk_alloc(pool, len, 0) == refused(DNK_NOTHING_ASKED));
     EXPECT(dnk_free(pool, len, DNK_PAGE) == refused(DNK_OUTSIDE));
     EXPECT(dnk_free(pool, len, 1) == refused(DNK_NOT_A_START));
     answer = dnk_free(pool, len, 0);
     EXPECT(dnk_refusal_of(answer) == DNK_GRANTED && dnk_value_of(answer) == 2048);
     EXPECT(dnk_free(pool, len, 0) == refused(DNK_NOT_TAKEN));
 
-    /* one after the other: a chunk, a word with stray bits, that chunk back and once more */
-    const dnk_request requests[] = {dnk_to_alloc(64), dnk_to_alloc(64) | (dnk_request)1 << 32, dnk_to_free(0), dnk_to_free(0)};
-    dnk_answer answers[] = {1, 2, 3, 4, 5};
+    /* one after the other: a chunk, a word with stray bits, nothing, that chunk back and once more */
+    const dnk_request requests[] = {dnk_to_alloc(64), dnk_to_alloc(64) | (dnk_request)1 << 32, dnk_to_alloc(0), dnk_to_free(0), dnk_to_free(0)};
+    dnk_answer answers[] = {1, 2, 3, 4, 5, 6};
     EXPECT(dnk_format(pool, len) == 1);
-    EXPECT(dnk_batch(pool, len, requests, 4, answers, 3) == refused(DNK_ANSWERS_TOO_SHORT));
+    EXPECT(dnk_batch(pool, len, requests, 5, answers, 4) == refused(DNK_ANSWERS_TOO_SHORT));
     EXPECT(answers[0] == 1 && answers[2] == 3);
-    EXPECT(dnk_batch(pool, len, requests, 4, answers, 5) == 0);
-    EXPECT(answers[0] == 0 && answers[1] == refused(DNK_UNREADABLE));
-    EXPECT(dnk_refusal_of(answers[2]) == DNK_GRANTED && answers[3] == refused(DNK_NOT_TAKEN) && answers[4] == 5);
+    EXPECT(dnk_batch(pool, len, requests, 5, answers, 6) == 0);
+    EXPECT(answers[0] == 0 && answers[1] == refused(DNK_UNREADABLE) && answers[2] == refused(DNK_NOTHING_ASKED));
+    EXPECT(dnk_refusal_of(answers[3]) == DNK_GRANTED && answers[4] == refused(DNK_NOT_TAKEN) && answers[5] == 6);
     EXPECT(dnk_batch(pool, len, requests, 0, answers, 0) == 0);
 
     EXPECT(dnk_alloc(pool, len, 2048) == 0 && dnk_alloc(pool, len, 2048) == 2048);
@@ -87,6 +89,7 @@ int main(void)
     EXPECT(dnk_validate(pool, len) == 1);
     EXPECT(dnk_free(pool, len, 2048) == refused(DNK_NOT_SOUND));
     EXPECT(dnk_alloc(pool, len, 1) == refused(DNK_NOT_SOUND));
+    EXPECT(dnk_alloc(pool, len, 0) == refused(DNK_NOT_SOUND));
 
     /* Blocks of every class and of whole pages, at multiples of 8 from the pool's first byte. */
     for (size_t pages = 1; pages <= DNK_MOST_PAGES; pages += pages < 256 ? 1 : 60) {

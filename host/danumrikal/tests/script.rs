@@ -47,7 +47,7 @@ fn around(lines: &str) -> String {
 fn the_whole_case() {
     prints(
         "take 30\ntake 64\ntake 5000\ngive 32\ngive 32\ntake 0\n",
-        "pool 12\nat 32\nat 4096\nat 8192\nback 32\nno 6\nat 64\nfree 8 runs 1\n",
+        "pool 12\nat 32\nat 4096\nat 8192\nback 32\nno 6\nno 10\nfree 9 runs 2\n",
     );
 }
 
@@ -61,6 +61,7 @@ fn lines_end_in_newlines_and_the_last_may_lack_it() {
     prints("give 0\n\ngive 0", &around("no 6\nno 8\nno 6\n"));
     prints("take 49152", "pool 12\nat 0\nfree 0 runs 0\n");
     prints("take 49153\ntake 4294967295", &around("no 4\nno 4\n"));
+    prints("take 0\ntake 0", &around("no 10\nno 10\n"));
 }
 
 #[test]

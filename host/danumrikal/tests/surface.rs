@@ -14,6 +14,7 @@ fn refusals_have_the_second_programs_numbers_and_names() {
         (Refusal::NotTaken, reference::Refusal::NotTaken),
         (Refusal::NotAStart, reference::Refusal::NotAStart),
         (Refusal::Unreadable, reference::Refusal::Unreadable),
+        (Refusal::NothingAsked, reference::Refusal::NothingAsked),
         (
             Refusal::AnswersTooShort,
             reference::Refusal::AnswersTooShort,

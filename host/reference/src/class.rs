@@ -1,6 +1,7 @@
 //! The nine chunk sizes, and which of them serves a request.
 
 use crate::layout::{MIN_SHIFT, PAGE_SHIFT, PAGE_SIZE};
+use crate::refusal::Refusal;
 
 /// How many chunk sizes there are: 8, 16, 32, ... 2,048.
 pub const CLASSES: usize = (PAGE_SHIFT - MIN_SHIFT) as usize;
@@ -96,12 +97,14 @@ pub enum Need {
     Run(u32),
 }
 
-/// What serves a request of `size` bytes. Size 0 counts as 1.
-pub fn need(size: u32) -> Need {
-    if size > LARGEST_CHUNK {
-        Need::Run(size.div_ceil(PAGE_SIZE))
+/// What serves a request of `size` bytes; nothing serves one of 0.
+pub fn need(size: u32) -> Result<Need, Refusal> {
+    if size == 0 {
+        Err(Refusal::NothingAsked)
+    } else if size > LARGEST_CHUNK {
+        Ok(Need::Run(size.div_ceil(PAGE_SIZE)))
     } else {
-        let shift = size.max(1).next_power_of_two().trailing_zeros();
-        Need::Chunk(Class(shift.saturating_sub(MIN_SHIFT)))
+        let shift = size.next_power_of_two().trailing_zeros();
+        Ok(Need::Chunk(Class(shift.saturating_sub(MIN_SHIFT))))
     }
 }

@@ -47,7 +47,7 @@ pub fn alloc(bytes: &mut [u8], size: u32) -> Result<u32, Refusal> {
 /// the call still ends without a panic.
 pub fn alloc_sound(bytes: &mut [u8], size: u32) -> Result<u32, Refusal> {
     let mut pool = Pool::open(bytes)?;
-    let offset = match need(size) {
+    let offset = match need(size)? {
         Need::Chunk(class) => pool.alloc_chunk(class),
         Need::Run(wanted) => pool.alloc_run(wanted),
     }?;

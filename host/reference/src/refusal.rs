@@ -1,4 +1,4 @@
-//! The ten ways a call or a script line is refused.
+//! The eleven ways a call or a script line is refused.
 
 use std::fmt;
 
@@ -24,6 +24,8 @@ pub enum Refusal {
     Unreadable,
     /// Script: the input is longer than a script may be.
     ScriptTooLong,
+    /// Alloc: a size of 0.
+    NothingAsked,
     /// Batch: the list for answers is shorter than the requests.
     AnswersTooShort,
 }
@@ -41,6 +43,7 @@ impl Refusal {
             Refusal::NotAStart => 7,
             Refusal::Unreadable => 8,
             Refusal::ScriptTooLong => 9,
+            Refusal::NothingAsked => 10,
             Refusal::AnswersTooShort => 11,
         }
     }
@@ -58,6 +61,7 @@ impl fmt::Display for Refusal {
             Refusal::NotAStart => "not a start",
             Refusal::Unreadable => "unreadable",
             Refusal::ScriptTooLong => "script too long",
+            Refusal::NothingAsked => "nothing asked",
             Refusal::AnswersTooShort => "answers too short",
         })
     }

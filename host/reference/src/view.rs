@@ -86,6 +86,8 @@ impl View {
 /// An answer that no correct pool gives.
 #[derive(Clone, Copy, Debug, PartialEq, Eq)]
 pub enum Contradiction {
+    /// A block was granted where nothing was asked for.
+    Nothing,
     /// The granted block reaches past the last page.
     Outside,
     /// The granted block overlaps the live block at this offset.
@@ -99,6 +101,7 @@ pub enum Contradiction {
 impl fmt::Display for Contradiction {
     fn fmt(&self, f: &mut fmt::Formatter<'_>) -> fmt::Result {
         match self {
+            Contradiction::Nothing => f.write_str("granted, and nothing was asked for"),
             Contradiction::Outside => f.write_str("granted block reaches past the last page"),
             Contradiction::Overlap(offset) => {
                 write!(f, "granted block overlaps the live block at {offset}")
@@ -143,7 +146,7 @@ impl LiveSet {
         let Ok(offset) = answer else {
             return Ok(());
         };
-        let block = match need(size) {
+        let block = match need(size).map_err(|_| Contradiction::Nothing)? {
             Need::Chunk(class) => Block::Chunk(class),
             Need::Run(pages) => Block::Run(pages),
         };
@@ -228,7 +231,7 @@ impl LiveSet {
         let view = self.expected();
         match call {
             Call::Alloc(size) => {
-                let room = match need(size) {
+                let room = match need(size)? {
                     Need::Chunk(class) => view.has_free_chunk(class) || !view.free_runs.is_empty(),
                     Need::Run(wanted) => view.free_runs.iter().any(|run| run.1 >= wanted),
                 };

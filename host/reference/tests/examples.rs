@@ -113,7 +113,6 @@ fn format_writes_records_alone() {
 #[test]
 fn sizes_and_classes() {
     let sizes = [
-        (0, 0),
         (1, 0),
         (8, 0),
         (9, 1),
@@ -147,6 +146,23 @@ fn sizes_and_classes() {
         assert_eq!(get(&bytes, bits::page_record(0) + bits::KIND, 3), 3);
         assert_eq!(get(&bytes, bits::page_record(0) + bits::RUN, 16), pages);
     }
+}
+
+#[test]
+fn nothing_is_refused_whatever_the_pool() {
+    let mut bytes = pool(1);
+    let nothing = |bytes: &mut [u8]| alloc(bytes, 0);
+    refused(&mut bytes, Refusal::NothingAsked, nothing);
+    // With a free chunk of the smallest class, then without any page.
+    assert_eq!(alloc(&mut bytes, 1), Ok(64));
+    refused(&mut bytes, Refusal::NothingAsked, nothing);
+    assert_eq!(free(&mut bytes, 64), Ok(8));
+    assert_eq!(alloc(&mut bytes, 4_096), Ok(0));
+    refused(&mut bytes, Refusal::NothingAsked, nothing);
+    assert_eq!(reqs_and_fails(&bytes, 0), (1, 0));
+    // Soundness comes first.
+    bytes[0] ^= 1;
+    refused(&mut bytes, Refusal::NotSound, nothing);
 }
 
 #[test]
@@ -429,7 +445,7 @@ fn inside_pages_only_marks_change() {
 #[test]
 fn the_whole_case() {
     let input = "take 30\ntake 64\ntake 5000\ngive 32\ngive 32\ntake 0\n";
-    let printout = "pool 12\nat 32\nat 4096\nat 8192\nback 32\nno 6\nat 64\nfree 8 runs 1\n";
+    let printout = "pool 12\nat 32\nat 4096\nat 8192\nback 32\nno 6\nno 10\nfree 9 runs 2\n";
     assert_eq!(script(input), printout);
     // A last line may lack its newline.
     assert_eq!(script(input.trim_end()), printout);
@@ -486,7 +502,7 @@ fn script_lines() {
 #[test]
 fn script_numbers() {
     let input = "take 4294967295\ngive 4294967295\ngive 0\ntake 0\n";
-    let printout = "pool 12\nno 4\nno 5\nno 6\nat 64\nfree 11 runs 1\n";
+    let printout = "pool 12\nno 4\nno 5\nno 6\nno 10\nfree 12 runs 1\n";
     assert_eq!(script(input), printout);
     let input = "take 4096\ntake 4096\ntake 4096\ngive 0\ngive 8192\ngive 4097\n";
     let printout = "pool 12\nat 0\nat 4096\nat 8192\nback 4096\nback 4096\nno 7\nfree 11 runs 2\n";
@@ -538,6 +554,7 @@ fn refusal_numbers() {
         (7, Refusal::NotAStart, "not a start"),
         (8, Refusal::Unreadable, "unreadable"),
         (9, Refusal::ScriptTooLong, "script too long"),
+        (10, Refusal::NothingAsked, "nothing asked"),
         (11, Refusal::AnswersTooShort, "answers too short"),
     ];
     for (number, refusal, name) in refusals {

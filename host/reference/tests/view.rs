@@ -68,6 +68,8 @@ fn contradictions() {
         let entered = live.record_alloc(size, Ok(offset));
         assert_eq!(entered, Err(Contradiction::Outside));
     }
+    let entered = live.record_alloc(0, Ok(72));
+    assert_eq!(entered, Err(Contradiction::Nothing));
     for offset in [0, 65, 72, 8_192, u32::MAX] {
         let entered = live.record_free(offset, Ok(8));
         assert_eq!(entered, Err(Contradiction::NotLive));

@@ -5,7 +5,7 @@
 pub const CLASSES: usize = 9;
 
 /// Requests above this many bytes take whole pages.
-pub const LARGEST_CHUNK: u32 = 2_048;
+const LARGEST_CHUNK: u32 = 2_048;
 
 /// Classes below this one keep their map in the page.
 pub const FIRST_IN_RECORD: usize = 3;
@@ -28,11 +28,18 @@ pub const CHUNKS: [u32; CLASSES] = [512, 256, 128, 64, 32, 16, 8, 4, 2];
 /// Chunks of a page that serve callers.
 pub const SERVING: [u32; CLASSES] = [504, 254, 127, 64, 32, 16, 8, 4, 2];
 
-/// The class of the smallest chunk that holds `size` bytes, up to 2,048.
+/// Whether a chunk serves `size` bytes. One test for both ends: 0, which nothing
+/// serves, is left to the rarer way of whole pages.
+#[inline]
+pub fn takes_chunk(size: u32) -> bool {
+    size.wrapping_sub(1) < LARGEST_CHUNK
+}
+
+/// The class of the smallest chunk that holds `size` bytes, 1 to 2,048.
 #[inline]
 pub fn class_of(size: u32) -> usize {
     // Sizes up to 8 all have a 7 here.
-    (size.saturating_sub(1) | 7).ilog2() as usize - 2
+    ((size - 1) | 7).ilog2() as usize - 2
 }
 
 /// Binary logarithm of the chunk size.

@@ -6,7 +6,7 @@
 mod chunks;
 mod runs;
 
-use crate::class::{class_of, CLASSES, LARGEST_CHUNK};
+use crate::class::{class_of, takes_chunk, CLASSES};
 use crate::{words, Refusal};
 
 /// What a page is.
@@ -85,7 +85,7 @@ impl Pool {
     /// Takes a block of at least `size` bytes and answers its offset.
     #[inline(always)]
     pub fn alloc(&mut self, size: u32) -> Result<u32, Refusal> {
-        if size <= LARGEST_CHUNK {
+        if takes_chunk(size) {
             self.alloc_chunk(class_of(size))
         } else {
             self.alloc_run(size)

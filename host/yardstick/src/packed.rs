@@ -8,7 +8,7 @@ mod validate;
 
 pub use validate::broken_rule;
 
-use crate::class::{class_of, CLASSES, LARGEST_CHUNK};
+use crate::class::{class_of, takes_chunk, CLASSES};
 use crate::{words, Refusal};
 use layout::{
     get, kind, page_count, put, run, stated_pages, Pool, CLASS_PAGE, CONSTANTS, FIRST_SHIFT,
@@ -47,7 +47,7 @@ pub fn free(bytes: &mut [u8], offset: u32) -> Result<u32, Refusal> {
 /// [`alloc`] without the validation. On unsound records it may panic or never
 /// end.
 pub fn alloc_sound(bytes: &mut [u8], size: u32) -> Result<u32, Refusal> {
-    if size > LARGEST_CHUNK {
+    if !takes_chunk(size) {
         return alloc_pages(bytes, size);
     }
     let class = class_of(size);
@@ -63,7 +63,7 @@ pub fn alloc_sound(bytes: &mut [u8], size: u32) -> Result<u32, Refusal> {
 #[inline(never)]
 fn alloc_pages(bytes: &mut [u8], size: u32) -> Result<u32, Refusal> {
     let mut pool = sound(bytes)?;
-    if size <= LARGEST_CHUNK {
+    if takes_chunk(size) {
         pool.alloc_page(class_of(size))
     } else {
         alloc_run(pool.header, pool.records, size)
@@ -99,7 +99,7 @@ fn sound(bytes: &mut [u8]) -> Result<Pool<'_>, Refusal> {
 impl Pool<'_> {
     #[inline(always)]
     fn alloc(&mut self, size: u32) -> Result<u32, Refusal> {
-        if size > LARGEST_CHUNK {
+        if !takes_chunk(size) {
             return self.alloc_pages(size);
         }
         match self.alloc_chunk(class_of(size)) {
@@ -111,7 +111,7 @@ impl Pool<'_> {
     /// As [`alloc_pages`].
     #[inline(never)]
     fn alloc_pages(&mut self, size: u32) -> Result<u32, Refusal> {
-        if size <= LARGEST_CHUNK {
+        if takes_chunk(size) {
             self.alloc_page(class_of(size))
         } else {
             alloc_run(self.header, self.records, size)

@@ -4,6 +4,10 @@ use borrow.Author.Needs.{needs}
 use Rattle.alloc_sound.proofs.alloc_sound.Statement.{statement}
 use Rattle.alloc_sound.proofs.alloc_sound.Tie as tie
 
+returns : tie.Need-returns
+unfolding allocOutcome allocSlice
+returns c = (search picks, search picks)
+
 alloc-small-requires : tie.Need-alloc-small-requires
 alloc-small-requires c κs = search needs
 
@@ -13,24 +17,25 @@ alloc-large-requires c κs = search needs
 same-length : tie.Need-same-length
 same-length c = search needs
 
-returns : tie.Need-returns
+returns-2 : tie.Need-returns-2
 unfolding allocOutcome allocSlice
-returns c = (search picks, search picks)
+returns-2 c = (search picks, search picks)
 
 same-length-2 : tie.Need-same-length-2
 same-length-2 c = search needs
 
-returns-2 : tie.Need-returns-2
+returns-3 : tie.Need-returns-3
 unfolding allocOutcome allocSlice
-returns-2 c = (search picks, search picks)
+returns-3 c = (search picks, search picks)
 
 pub alloc-sound-spec : {M : Type 1} → statement M
 alloc-sound-spec =
     tie.close
     (tie.spec
+    returns
     alloc-small-requires
     alloc-large-requires
     same-length
-    returns
+    returns-2
     same-length-2
-    returns-2)
+    returns-3)

@@ -30,7 +30,7 @@ const HANDS_OUT_TWICE: Program = Program {
         let blocks = live_blocks(pool).unwrap_or_default();
         match need(size) {
             // The third chunk of a class is the first once more.
-            Need::Chunk(class) if used(pool, class) == 2 => {
+            Ok(Need::Chunk(class)) if used(pool, class) == 2 => {
                 let first = blocks.iter().find(|block| *block.1 == Block::Chunk(class));
                 first.map(|block| *block.0).ok_or(3)
             }
@@ -144,6 +144,34 @@ const TELLS_THE_CLASS: Program = Program {
     ..SECOND
 };
 
+const TAKES_NOTHING_FOR_ONE: Program = Program {
+    name: "takes nothing for one byte",
+    alloc: |pool, size| (SECOND.alloc)(pool, size.max(1)),
+    ..SECOND
+};
+
+const COUNTS_NOTHING: Program = Program {
+    name: "counts takes of nothing",
+    alloc: |pool, size| {
+        let answer = (SECOND.alloc)(pool, size);
+        if answer == Err(10) {
+            let asks = word(pool, 16).wrapping_add(1 << 32);
+            set_word(pool, 16, asks);
+        }
+        answer
+    },
+    ..SECOND
+};
+
+const TRIES_NOTHING_FIRST: Program = Program {
+    name: "tries nothing before soundness",
+    alloc: |pool, size| match size {
+        0 => Err(10),
+        _ => (SECOND.alloc)(pool, size),
+    },
+    ..SECOND
+};
+
 /// Finds the double out and answers what would be printed.
 fn found(double: Program, other: Program) -> Found {
     let plans = (0..1_000).map(|seed| Plan {
@@ -169,6 +197,9 @@ fn every_double_is_caught_in_a_handful_of_calls() {
         (COUNTS_REFUSED_FREES, "a refused call changed the pool"),
         (TELLS_PAGES, "the freed block has not"),
         (TELLS_THE_CLASS, "the freed block has not"),
+        (TAKES_NOTHING_FOR_ONE, "at 64, where the live blocks say"),
+        (COUNTS_NOTHING, "a refused call changed the pool"),
+        (TRIES_NOTHING_FIRST, "though the records are unsound"),
     ] {
         let different = found(double, SECOND);
         let alone = found(double, double);
@@ -210,8 +241,8 @@ fn what_is_printed() {
     let found = Found::shrunk([BELIEVES_A_SECOND_FREE, SECOND], case);
     let expected = "\
 pages 1, tail 0, seed 5, callers' bytes kept between calls
-    alloc 0: at 64
-    alloc 0: at 72
+    alloc 1: at 64
+    alloc 1: at 72
     free 72: back 8
     free 72: believes a second free: back 8; second: refused with 6";
     assert_eq!(found.to_string(), expected);

@@ -252,7 +252,7 @@ impl Game {
     /// A refused call changes nothing but the tallies of a refused chunk.
     fn only_tallies_changed(&mut self, call: Call, refusal: u8) -> Result<(), Wrong> {
         if let (Call::Alloc(size), 4) = (call, refusal) {
-            if let Need::Chunk(class) = need(size) {
+            if let Ok(Need::Chunk(class)) = need(size) {
                 let pool = &mut self.before[self.pool.clone()];
                 let mut record = ClassRecord::read(pool, class);
                 record.reqs = record.reqs.saturating_add(1);

@@ -54,7 +54,8 @@ fn every_page_count() {
         games.map(|game| Plan::new(game, 1 + game as usize % MANY_PAGES, 100)),
     );
     assert_eq!(seen.refused[3], 0);
-    assert!(seen.refused[4..].iter().all(|count| *count > 100));
+    assert!(seen.refused[4..8].iter().all(|count| *count > 100));
+    assert!(seen.refused[10] > 100);
 }
 
 #[test]
@@ -65,7 +66,8 @@ fn small_pools_fill_break_into_pieces_and_empty() {
         games.map(|game| Plan::new(10_000_000 + game, 1 + game as usize % 12, 400)),
     );
     assert_eq!(seen.refused[3], 0);
-    assert!(seen.refused[4..].iter().all(|count| *count > 1_000));
+    assert!(seen.refused[4..8].iter().all(|count| *count > 1_000));
+    assert!(seen.refused[10] > 500);
     assert!(seen.allocated.iter().all(|count| *count > 1_000));
 }
 
@@ -131,6 +133,7 @@ fn any_bytes_are_answered() {
             assert_eq!(rule, reference::broken_rule(&bytes), "length {len}");
             let before = bytes.clone();
             assert_eq!((PROVED.alloc)(&mut bytes, 1), Err(3), "length {len}");
+            assert_eq!((PROVED.alloc)(&mut bytes, 0), Err(3), "length {len}");
             assert_eq!((PROVED.free)(&mut bytes, 0), Err(3), "length {len}");
             assert!(bytes == before, "length {len}");
         }

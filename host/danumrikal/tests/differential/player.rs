@@ -81,7 +81,7 @@ pub struct Seen {
     pub allocated: [u64; 10],
     pub freed: u64,
     /// Refusals by number.
-    pub refused: [u64; 8],
+    pub refused: [u64; 11],
     /// First broken rules after damage, 0 for none.
     pub broken: [u64; 7],
 }
@@ -90,7 +90,7 @@ impl Seen {
     fn note(&mut self, turn: Turn, event: Event) {
         match (turn, event) {
             (Turn::Alloc(size), Event::Allocated(_)) => {
-                let place = match need(size) {
+                let place = match need(size).expect("a size that is served") {
                     Need::Chunk(class) => class.index(),
                     Need::Run(_) => 9,
                 };

@@ -37,6 +37,9 @@ impl Plain {
     /// The answer's offset or the refusal's number.
     pub fn alloc(&mut self, size: u32) -> Result<u32, u8> {
         let size = size as usize;
+        if size == 0 {
+            return Err(10);
+        }
         if size > 2048 {
             let wanted = size.div_ceil(4096);
             let first = self.cut(wanted).ok_or(4)?;

@@ -4,9 +4,12 @@ use super::{Kind, Node, Pool, FREE_RUNS};
 use crate::Refusal;
 
 impl Pool {
-    /// Takes the pages that hold `size` bytes.
+    /// Takes the pages that hold `size` bytes; 0 is refused.
     #[inline]
     pub(super) fn alloc_run(&mut self, size: u32) -> Result<u32, Refusal> {
+        if size == 0 {
+            return Err(Refusal::NothingAsked);
+        }
         let wanted = size.div_ceil(4_096);
         let wanted = u16::try_from(wanted).map_err(|_| Refusal::NoRoom)?;
         let page = self.cut_run(wanted).ok_or(Refusal::NoRoom)?;

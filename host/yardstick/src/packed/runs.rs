@@ -7,9 +7,12 @@ use super::layout::{
 };
 use crate::Refusal;
 
-/// Takes the pages that hold `size` bytes and answers their offset.
+/// Takes the pages that hold `size` bytes and answers their offset; 0 is refused.
 #[inline]
 pub fn alloc_run(header: &mut Word, records: &mut [Record], size: u32) -> Result<u32, Refusal> {
+    if size == 0 {
+        return Err(Refusal::NothingAsked);
+    }
     let wanted = size.div_ceil(4_096) as usize;
     let page = cut_run(header, records, wanted).ok_or(Refusal::NoRoom)?;
     put(
