@@ -13,11 +13,12 @@
 #include <stdlib.h>
 #include <string.h>
 
-static uint8_t pool[DNK_POOL_LENGTH(12)];
+static uint8_t pool[DNK_POOL_LENGTH(DNK_EDITION_1, 12)];
+static uint8_t next_pool[DNK_POOL_LENGTH(DNK_EDITION_2, 12)];
 
 static char *text_at(uint32_t offset)
 {
-    return (char *)pool + dnk_place(sizeof pool, offset);
+    return (char *)pool + dnk_place(pool, sizeof pool, offset);
 }
 
 /* Takes a block and keeps a text in it. */
@@ -52,7 +53,7 @@ static void release(const char *what, uint32_t offset)
 }
 
 /* At dawn both blocks go, and a dark frame takes their place: three calls under one validation. */
-static void dawn(uint32_t pointing, uint32_t seconds)
+static uint32_t dawn(uint32_t pointing, uint32_t seconds)
 {
     const dnk_request requests[] = {dnk_to_free(pointing), dnk_to_free(seconds), dnk_to_alloc(20000)};
     dnk_answer answers[3];
@@ -62,11 +63,30 @@ static void dawn(uint32_t pointing, uint32_t seconds)
     tell("pointing block", answers[0]);
     tell("leap second table", answers[1]);
     printf("dark frame: at %" PRIu32 "\n", dnk_value_of(answers[2]));
+    return dnk_value_of(answers[2]);
+}
+
+/* The next night wants to know how many star lists there are at once: edition 2 keeps such peaks. */
+static void next_night(uint32_t frame)
+{
+    dnk_answer answer = dnk_convert(pool, sizeof pool, next_pool, sizeof next_pool);
+    if (dnk_refusal_of(answer) != DNK_GRANTED) {
+        exit(EXIT_FAILURE);
+    }
+    printf("next night: %" PRIu32 " pages, edition %d\n", dnk_value_of(answer), next_pool[0]);
+    tell("dark frame", dnk_free(next_pool, sizeof next_pool, frame));
+    uint32_t lists[3];
+    for (int i = 0; i < 3; i++) {
+        lists[i] = dnk_value_of(dnk_alloc(next_pool, sizeof next_pool, 30));
+    }
+    tell("star list", dnk_free(next_pool, sizeof next_pool, lists[0]));
+    printf("star lists at once: %" PRIu32 "\n", dnk_peak(next_pool, 2)); /* chunks of 32 bytes */
+    printf("records: %s\n", dnk_validate(next_pool, sizeof next_pool) == 0 ? "sound" : "unsound");
 }
 
 int main(void)
 {
-    printf("pages: %" PRIu32 "\n", dnk_value_of(dnk_format(pool, sizeof pool)));
+    printf("pages: %" PRIu32 "\n", dnk_value_of(dnk_format(pool, sizeof pool, DNK_EDITION_1)));
     uint32_t stars = keep("star list", "Vega, Altair, Deneb", 30);
     uint32_t pointing = keep("pointing block", "azimuth 181.5, altitude 47.2", 64);
     uint32_t seconds = keep("leap second table", "2016-12-31: 37", 5000);
@@ -74,7 +94,6 @@ int main(void)
     release("star list", stars);
     printf("pointing block: %s\n", text_at(pointing));
     printf("leap second table: %s\n", text_at(seconds));
-    dawn(pointing, seconds);
-    printf("records: %s\n", dnk_validate(pool, sizeof pool) == 0 ? "sound" : "unsound");
+    next_night(dawn(pointing, seconds));
     return EXIT_SUCCESS;
 }

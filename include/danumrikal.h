@@ -2,22 +2,24 @@
  * Danumrikal: a slab allocator in a shared slice of bytes, for C99 and C++.
  *
  * A pool is a pointer and a length. `rt staticlib danumrikal` makes the archive
- * with the five calls, target/staticlib/libdanumrikal.a; it needs no other
+ * with the six calls, target/staticlib/libdanumrikal.a; it needs no other
  * library.
  *
- * The five calls are proved: whatever the bytes hold and whatever is passed,
+ * The six calls are proved: whatever the bytes hold and whatever is passed,
  * each returns, stays inside the given bytes and answers. A refused call changes
  * nothing, but that a chunk refused for room is counted in its class's asks and
- * failures. No call writes a block's bytes. An offset at which no live block
- * begins is never freed: a block freed twice is refused, as long as its place
- * was not handed out again. The inline functions are tested. docs/SPEC.md has
- * all rules.
+ * failures. No call writes a block's bytes, but dnk_convert in its target. An
+ * offset at which no live block begins is never freed: a block freed twice is
+ * refused, as long as its place was not handed out again. The inline functions
+ * are tested. docs/SPEC.md has all rules.
  *
  * What the host program keeps:
  *
  * - pool is not null and names len bytes that stay mapped during the call:
  *   readable for dnk_validate, writable too for the others. Any alignment will
  *   do; see dnk_place for that of blocks.
+ * - source and target of a conversion likewise, the source readable and the
+ *   target writable too; they share no byte.
  * - requests and answers of a batch are not null either, lie where a uint64_t
  *   may, and share no byte with the pool or each other.
  * - One call at a time, and nobody else writes any of the len bytes meanwhile,
@@ -42,15 +44,39 @@ extern "C" {
 #endif
 
 #define DNK_PAGE 4096          /* bytes of a page */
+#define DNK_HEADER 8           /* bytes of the header */
 #define DNK_RECORD 16          /* bytes of a page's record */
-#define DNK_HEAD 152           /* bytes of header and class records, before the page records */
+#define DNK_CLASSES 9          /* chunk sizes: class c has chunks of 8 << c bytes */
 #define DNK_MOST_PAGES 4096    /* pages of the largest pool */
 #define DNK_LARGEST_CHUNK 2048 /* blocks of more bytes are whole pages */
 
+/*
+ * The records have two editions, which differ in their class records. The first
+ * byte of a pool is the number of its edition: every call looks there first, and
+ * all but dnk_convert serve both. A pool of so many pages, fields most
+ * significant bit first:
+ *
+ *                    edition 1             edition 2
+ *   header           0, 8 bytes            0, 8 bytes
+ *   class record c   8 + 16 * c, 16 bytes  8 + 24 * c, 24 bytes: as in edition
+ *                                          1, then peak 24 bits, 40 zero bits
+ *   page record p    152 + 16 * p          224 + 16 * p
+ *   page 0           152 + 16 * pages      224 + 16 * pages
+ *   tail             152 + 4112 * pages    224 + 4112 * pages
+ *
+ * The peak is the most chunks of a class that were in use at once (dnk_peak).
+ */
+#define DNK_EDITION_1 1
+#define DNK_EDITION_2 2
+
+/* Bytes of a class record; of header and class records, before the page records. */
+#define DNK_CLASS_RECORD(edition) (8 + 8 * (size_t)(edition))                    /* 16, 24 */
+#define DNK_HEAD(edition) (DNK_HEADER + DNK_CLASSES * DNK_CLASS_RECORD(edition)) /* 152, 224 */
+
 /* The length of a pool of so many pages; a longer one has a tail that no call touches. */
-#define DNK_POOL_LENGTH(pages) (DNK_HEAD + (size_t)(DNK_RECORD + DNK_PAGE) * (pages))
-#define DNK_SHORTEST DNK_POOL_LENGTH(1)                       /* 4,264 */
-#define DNK_LONGEST (DNK_POOL_LENGTH(DNK_MOST_PAGES + 1) - 1) /* 16,847,015 */
+#define DNK_POOL_LENGTH(edition, pages) (DNK_HEAD(edition) + (size_t)(DNK_RECORD + DNK_PAGE) * (pages))
+#define DNK_SHORTEST(edition) DNK_POOL_LENGTH(edition, 1)                       /* 4,264, 4,336 */
+#define DNK_LONGEST(edition) (DNK_POOL_LENGTH(edition, DNK_MOST_PAGES + 1) - 1) /* 16,847,015, 16,847,087 */
 
 /*
  * An answer is one word: the refusal's number in the top 8 bits, 24 zero bits,
@@ -72,27 +98,30 @@ enum dnk_refusal {
     DNK_NOT_A_START = 7,
     DNK_UNREADABLE = 8,
     DNK_NOTHING_ASKED = 10,
-    DNK_ANSWERS_TOO_SHORT = 11
+    DNK_ANSWERS_TOO_SHORT = 11,
+    DNK_WRONG_LENGTH = 12
 };
 
 /*
- * Makes a pool of the bytes, with all pages free. The value is the page count,
- * 1 to DNK_MOST_PAGES. Bytes of pages and behind them stay as they are. Refused
- * by length alone:
- *   DNK_TOO_SHORT    below DNK_SHORTEST: it holds no page
- *   DNK_TOO_LONG     above DNK_LONGEST: it holds more than DNK_MOST_PAGES
+ * Makes a pool of an edition of the bytes, with all pages free. The value is the
+ * page count, 1 to DNK_MOST_PAGES. Bytes of pages and behind them stay as they
+ * are. Refused by the first of:
+ *   DNK_NOT_SOUND    the edition is neither DNK_EDITION_1 nor DNK_EDITION_2
+ *   DNK_TOO_SHORT    below DNK_SHORTEST(edition): it holds no page
+ *   DNK_TOO_LONG     above DNK_LONGEST(edition): more than DNK_MOST_PAGES
  */
-dnk_answer dnk_format(uint8_t *pool, size_t len);
+dnk_answer dnk_format(uint8_t *pool, size_t len, uint8_t edition);
 
 /*
  * Not an answer: 0 where the records are sound, else the number of the first
  * rule that they break. Changes nothing.
- *   1 header         a pool's length, and the header says so
+ *   1 header         an edition, a pool's length, and the header says so
  *   2 pages          runs and class pages cover the pages, each recorded as such
  *   3 free-run list  it holds each free run once, and links lead back
  *   4 class lists    each holds its class's pages with a free chunk, likewise
  *   5 in use         each class page has a chunk in use
- *   6 counts         free pages, used and total are what can be counted
+ *   6 counts         free pages, used and total are what can be counted; in
+ *                    edition 2 peak is at least used, and its zero bits are 0
  */
 uint64_t dnk_validate(const uint8_t *pool, size_t len);
 
@@ -138,6 +167,18 @@ typedef uint64_t dnk_request;
 dnk_answer dnk_batch(uint8_t *pool, size_t len, const dnk_request *requests, size_t request_count,
                      dnk_answer *answers, size_t answer_count);
 
+/*
+ * Makes a pool of edition 2 of the target, with all that the source, a sound
+ * pool of edition 1, holds: blocks keep their offsets and bytes, lists their
+ * order, classes their counts. The peak of a class becomes its chunks in use.
+ * Bytes behind the target's last page stay, and the source too. The value is the
+ * page count. Refused by the first of these, and then the target stays as it is:
+ *   DNK_NOT_SOUND     the source is no sound pool of edition 1
+ *   DNK_WRONG_LENGTH  the target does not hold as many pages: it is shorter than
+ *                     DNK_POOL_LENGTH(DNK_EDITION_2, pages), or longer by a page
+ */
+dnk_answer dnk_convert(const uint8_t *source, size_t source_len, uint8_t *target, size_t target_len);
+
 /* The request to take a block of at least size bytes. */
 static inline dnk_request dnk_to_alloc(uint32_t size)
 {
@@ -177,20 +218,31 @@ static inline const char *dnk_refusal_name(enum dnk_refusal refusal)
     case DNK_UNREADABLE: return "unreadable";
     case DNK_NOTHING_ASKED: return "nothing asked";
     case DNK_ANSWERS_TOO_SHORT: return "answers too short";
+    case DNK_WRONG_LENGTH: return "wrong length";
     }
     return "unknown";
 }
 
 /*
- * Where the byte at an offset lies in a pool of a length that dnk_format
- * accepts. Offsets count from the first page, which lies behind the records, at
- * byte 152 + 16 * pages; blocks begin at offsets that are multiples of 8. So a
- * block's address is a multiple of 8 where the pool's is, and in general of no
- * more.
+ * Where the byte at an offset lies in a pool of either edition. Offsets count
+ * from the first page, which lies behind the records; blocks begin at offsets
+ * that are multiples of 8. So a block's address is a multiple of 8 where the
+ * pool's is, and in general of no more.
  */
-static inline size_t dnk_place(size_t len, uint32_t offset)
+static inline size_t dnk_place(const uint8_t *pool, size_t len, uint32_t offset)
 {
-    return DNK_HEAD + DNK_RECORD * ((len - DNK_HEAD) / (DNK_RECORD + DNK_PAGE)) + offset;
+    const size_t head = DNK_HEAD(pool[0]);
+    return head + DNK_RECORD * ((len - head) / (DNK_RECORD + DNK_PAGE)) + offset;
+}
+
+/*
+ * The most chunks of 8 << c bytes that were in use at once, since dnk_format or
+ * dnk_convert, in a pool of edition 2; c is below DNK_CLASSES.
+ */
+static inline uint32_t dnk_peak(const uint8_t *pool, unsigned c)
+{
+    const uint8_t *peak = pool + DNK_HEADER + DNK_CLASS_RECORD(DNK_EDITION_2) * c + 16;
+    return (uint32_t)peak[0] << 16 | (uint32_t)peak[1] << 8 | peak[2];
 }
 
 #ifdef __cplusplus

@@ -12,6 +12,7 @@ use Rattle.lists.specs.Mirror.{firstOf}
 use Rattle.rules.specs.Bytes.{mapBase}
 use Rattle.run_extents.specs.Mirror.{fitIn, runTaken}
 use Rattle.classes.specs.Mirror.{chunkRefused}
+use Rattle.class_peaks.specs.Mirror.{peakRaised}
 use Rattle.chunks.specs.Mirror.{chunkTaken, pageCut}
 use Rattle.sizes.specs.Mirror.{classFor}
 
@@ -56,6 +57,10 @@ classOutcome w s P c = fromOutcome w s P c (firstOf w s (1 + c))
 unfoldable pub classSlice : (w : ℕ) (s : List ℕ) (P c : ℕ) → List ℕ
 classSlice w s P c = fromSlice w s P c (firstOf w s (1 + c))
 
+-- the class's peak follows
+unfoldable pub smallSlice : (w : ℕ) (s : List ℕ) (P c : ℕ) → List ℕ
+smallSlice w s P c = peakRaised w (classSlice w s P c) c
+
 -- ---- k pages
 
 unfoldable pub runOutcome : ℕ → Outcome
@@ -76,4 +81,4 @@ unfoldable pub allocOutcome : (w : ℕ) (s : List ℕ) (P n : ℕ) → Outcome
 allocOutcome w s P n = pick (eqb n 0) (refused NothingAsked) (pick (leb n 2048) (classOutcome w s P (classFor n)) (pagesOutcome w s P (pagesFor n)))
 
 unfoldable pub allocSlice : (w : ℕ) (s : List ℕ) (P n : ℕ) → List ℕ
-allocSlice w s P n = pick (eqb n 0) s (pick (leb n 2048) (classSlice w s P (classFor n)) (pagesSlice w s P (pagesFor n)))
+allocSlice w s P n = pick (eqb n 0) s (pick (leb n 2048) (smallSlice w s P (classFor n)) (pagesSlice w s P (pagesFor n)))

@@ -16,7 +16,7 @@ ghost use Rattle.sizes.specs.Mirror.{classFor};
 ghost use Rattle.run_extents.specs.Mirror.{runTaken};
 ghost use Rattle.classes.specs.Mirror.{chunkRefused};
 ghost use Rattle.chunks.specs.Mirror.{pageCut};
-ghost use Rattle.alloc_sound.specs.Mirror.{chunkOutcome, chunkSlice, firstOutcome, cutOutcome, cutSlice, newOutcome, newSlice, fromOutcome, fromSlice, classOutcome, classSlice, runOutcome, runSlice, pagesOutcome, pagesSlice, allocOutcome, allocSlice};
+ghost use Rattle.alloc_sound.specs.Mirror.{chunkOutcome, chunkSlice, firstOutcome, cutOutcome, cutSlice, newOutcome, newSlice, fromOutcome, fromSlice, classOutcome, classSlice, smallSlice, runOutcome, runSlice, pagesOutcome, pagesSlice, allocOutcome, allocSlice};
 
 // Takes a block of at least `size` bytes (SPEC 4.4).
 pub fn alloc_sound(pool: &mut [u8], w: u8, pages: u16, size: u32) -> Allocated
@@ -38,10 +38,12 @@ pub fn alloc_sound(pool: &mut [u8], w: u8, pages: u16, size: u32) -> Allocated
 fn alloc_small(pool: &mut [u8], w: u8, pages: u16, size: u32) -> Allocated
     requires { ⌜ size ≤ 2048 ⌝ }
     ensures answer { λ r. ⌜ ofAlloc r ≡ classOutcome w (now (pool .entry)) pages (classFor size) ⌝ }
-    ensures slice { λ _. ⌜ now (pool .exit) ≡ classSlice w (now (pool .entry)) pages (classFor size) ⌝ }
+    ensures slice { λ _. ⌜ now (pool .exit) ≡ smallSlice w (now (pool .entry)) pages (classFor size) ⌝ }
 {
     let c = sizes::class_for(size);
-    chunk_of_class(pool, w, pages, c)
+    let taken = chunk_of_class(pool, w, pages, c);
+    class_peaks::raise_peak(pool, w, c);
+    taken
 }
 
 fn chunk_of_class(pool: &mut [u8], w: u8, pages: u16, c: u8) -> Allocated

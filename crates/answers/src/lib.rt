@@ -5,6 +5,7 @@ ghost use Rattle.answers.specs.Outcome.{numberOf};
 // A byte by its distance from the first page's first byte.
 pub struct Offset(pub u32);
 
+// Of format and convert.
 pub enum Formatted {
     // the page count
     Pages(u16),
@@ -50,6 +51,8 @@ pub enum Refusal {
     NothingAsked,
     // batch: fewer places for answers than requests
     AnswersTooShort,
+    // convert: a target whose length gives another page count
+    WrongLength,
 }
 
 // The refusal's number (SPEC 5).
@@ -68,5 +71,6 @@ pub fn number(r: Refusal) -> u8
         Refusal::ScriptTooLong => 9,
         Refusal::NothingAsked => 10,
         Refusal::AnswersTooShort => 11,
+        Refusal::WrongLength => 12,
     }
 }

@@ -2,26 +2,27 @@
 use answers::Offset;
 ghost use mathlib.Core.Path.{_≡_};
 ghost use lib.ListN.{length};
-ghost use Rattle.format.specs.Format as formats;
 ghost use Rattle.model.specs.Calls.{Alloc, Free};
 ghost use Rattle.rules.specs.Bytes.{brokenRule};
 ghost use Rattle.demands.specs.Calls.{answered, after};
+ghost use Rattle.demands.specs.Editions.{widthOf, formatAsOutcome, formattedAs};
 ghost use Rattle.answer_words.specs.Word.{wordOf};
+ghost use Rattle.convert.specs.Convert.{convertOutcome, converted};
 ghost use Rattle.batch.specs.Batch.{batchOutcome, batchPool, batchAnswers};
 
-// Makes a pool of a slice: the page count, or the refusal.
+// Makes a pool of an edition of a slice: the page count, or the refusal.
 #[no_mangle]
-pub extern "C" fn dnk_format(pool: &mut [u8]) -> u64
-    ensures answer { λ r. ⌜ r ≡ wordOf (formats.formatOutcome 2 (length (now (pool .entry)))) ⌝ }
-    ensures slice { λ _. ⌜ now (pool .exit) ≡ formats.formatted 2 (now (pool .entry)) ⌝ }
+pub extern "C" fn dnk_format(pool: &mut [u8], edition: u8) -> u64
+    ensures answer { λ r. ⌜ r ≡ wordOf (formatAsOutcome edition (length (now (pool .entry)))) ⌝ }
+    ensures slice { λ _. ⌜ now (pool .exit) ≡ formattedAs edition (now (pool .entry)) ⌝ }
 {
-    answer_words::formatted_word(pool::format(pool))
+    answer_words::formatted_word(pool::format(pool, edition))
 }
 
 // The number of the first rule that the pool breaks; 0 where it is sound.
 #[no_mangle]
 pub extern "C" fn dnk_validate(pool: &[u8]) -> u64
-    ensures { λ r. ⌜ r ≡ brokenRule 2 (now (pool .entry)) ⌝ }
+    ensures { λ r. ⌜ r ≡ brokenRule (widthOf (now (pool .entry))) (now (pool .entry)) ⌝ }
 {
     pool::broken_rule(pool) as u64
 }
@@ -29,8 +30,8 @@ pub extern "C" fn dnk_validate(pool: &[u8]) -> u64
 // Takes a block: its offset, or the refusal.
 #[no_mangle]
 pub extern "C" fn dnk_alloc(pool: &mut [u8], size: u32) -> u64
-    ensures answer { λ r. ⌜ r ≡ wordOf (answered 2 (now (pool .entry)) (Alloc size)) ⌝ }
-    ensures slice { λ _. ⌜ now (pool .exit) ≡ after 2 (now (pool .entry)) (Alloc size) ⌝ }
+    ensures answer { λ r. ⌜ r ≡ wordOf (answered (widthOf (now (pool .entry))) (now (pool .entry)) (Alloc size)) ⌝ }
+    ensures slice { λ _. ⌜ now (pool .exit) ≡ after (widthOf (now (pool .entry))) (now (pool .entry)) (Alloc size) ⌝ }
 {
     answer_words::allocated_word(pool::alloc(pool, size))
 }
@@ -38,8 +39,8 @@ pub extern "C" fn dnk_alloc(pool: &mut [u8], size: u32) -> u64
 // Gives a block back: the bytes released, or the refusal.
 #[no_mangle]
 pub extern "C" fn dnk_free(pool: &mut [u8], offset: u32) -> u64
-    ensures answer { λ r. ⌜ r ≡ wordOf (answered 2 (now (pool .entry)) (Free offset)) ⌝ }
-    ensures slice { λ _. ⌜ now (pool .exit) ≡ after 2 (now (pool .entry)) (Free offset) ⌝ }
+    ensures answer { λ r. ⌜ r ≡ wordOf (answered (widthOf (now (pool .entry))) (now (pool .entry)) (Free offset)) ⌝ }
+    ensures slice { λ _. ⌜ now (pool .exit) ≡ after (widthOf (now (pool .entry))) (now (pool .entry)) (Free offset) ⌝ }
 {
     answer_words::freed_word(pool::free(pool, Offset(offset)))
 }
@@ -47,9 +48,18 @@ pub extern "C" fn dnk_free(pool: &mut [u8], offset: u32) -> u64
 // Serves a list of request words, with the words of their answers in a second list: 0, or the refusal.
 #[no_mangle]
 pub extern "C" fn dnk_batch(pool: &mut [u8], requests: &[u64], answers: &mut [u64]) -> u64
-    ensures answer { λ r. ⌜ r ≡ wordOf (batchOutcome 2 (now (pool .entry)) (now (requests .entry)) (now (answers .entry))) ⌝ }
-    ensures pool { λ _. ⌜ now (pool .exit) ≡ batchPool 2 (now (pool .entry)) (now (requests .entry)) (now (answers .entry)) ⌝ }
-    ensures answers { λ _. ⌜ now (answers .exit) ≡ batchAnswers 2 (now (pool .entry)) (now (requests .entry)) (now (answers .entry)) ⌝ }
+    ensures answer { λ r. ⌜ r ≡ wordOf (batchOutcome (widthOf (now (pool .entry))) (now (pool .entry)) (now (requests .entry)) (now (answers .entry))) ⌝ }
+    ensures pool { λ _. ⌜ now (pool .exit) ≡ batchPool (widthOf (now (pool .entry))) (now (pool .entry)) (now (requests .entry)) (now (answers .entry)) ⌝ }
+    ensures answers { λ _. ⌜ now (answers .exit) ≡ batchAnswers (widthOf (now (pool .entry))) (now (pool .entry)) (now (requests .entry)) (now (answers .entry)) ⌝ }
 {
     answer_words::batched_word(pool::batch(pool, requests, answers))
+}
+
+// Copies a pool of edition 1 into a second slice as edition 2: the page count, or the refusal.
+#[no_mangle]
+pub extern "C" fn dnk_convert(source: &[u8], target: &mut [u8]) -> u64
+    ensures answer { λ r. ⌜ r ≡ wordOf (convertOutcome (now (source .entry)) (now (target .entry))) ⌝ }
+    ensures slice { λ _. ⌜ now (target .exit) ≡ converted (now (source .entry)) (now (target .entry)) ⌝ }
+{
+    answer_words::formatted_word(convert::convert(source, target))
 }

@@ -1,5 +1,5 @@
 -- Alloc on the bytes of a sound pool does what the model does, given what each operation does.
-use mathlib.Core.Path.{_≡_, refl, sym}
+use mathlib.Core.Path.{_≡_, refl, sym, ap, _∙_}
 use mathlib.Core.Logic.{_⊎_, inl, inr, _≢_}
 use mathlib.Core.Option.{Option, none, some}
 use mathlib.Core.List.{List, [], _∷_}
@@ -19,12 +19,13 @@ use Rattle.model.proofs.Classes.{class-ok}
 use Rattle.lists.specs.Mirror.{firstOf}
 use Rattle.run_extents.specs.Mirror.{fitIn, runTaken}
 use Rattle.classes.specs.Mirror.{chunkRefused}
+use Rattle.class_peaks.specs.Mirror.{peakRaised}
 use Rattle.chunks.specs.Mirror.{chunkTaken, pageCut}
 use Rattle.run_laws.specs.OnImage.{startOr}
 use Rattle.sizes.proofs.Laws.{class-is}
-use Rattle.alloc_sound.specs.Mirror.{lowestOn, chunkOutcome, chunkSlice, firstOutcome, cutOutcome, cutSlice, newOutcome, newSlice, fromOutcome, fromSlice, classOutcome, classSlice, runOutcome, runSlice, pagesOutcome, pagesSlice, allocOutcome, allocSlice}
+use Rattle.alloc_sound.specs.Mirror.{lowestOn, chunkOutcome, chunkSlice, firstOutcome, cutOutcome, cutSlice, newOutcome, newSlice, fromOutcome, fromSlice, classOutcome, classSlice, smallSlice, runOutcome, runSlice, pagesOutcome, pagesSlice, allocOutcome, allocSlice}
 use Rattle.drawing.specs.Draw.{draw}
-use Rattle.demands.specs.Calls.{outcome}
+use Rattle.demands.specs.Calls.{outcome, redrawn}
 
 -- what reading and each operation do on the bytes s, which show the state m of P pages
 pub record AllocFacts (w : ℕ) (s : List ℕ) (P : ℕ) (m : State) : Type 0 where
@@ -38,12 +39,21 @@ pub record AllocFacts (w : ℕ) (s : List ℕ) (P : ℕ) (m : State) : Type 0 wh
       chunkTaken w s P c p (lowest c (marksOf (m .page p))) ≡ draw w s (markChunk m c p rest (marksOf (m .page p)) .after)
   pub cut : (c : ℕ) (r : Run) → c ≤ 8 → m .lists c ≡ [] → fit 1 (m .runs) ≡ some r → pageCut w s P c (r .start) ≡ draw w s (cutPage m c (some r) .after)
   pub refuse-chunk : (c : ℕ) → c ≤ 8 → chunkRefused w s c ≡ draw w s (tallied m c)
+  -- the peak of the chunk's class follows; nothing else raises one
+  pub peak : (n c : ℕ) → needOf n ≡ chunkOf c → c ≤ 8 → peakRaised w (draw w s (allocFor m (chunkOf c) .after)) c ≡ redrawn w s (allocFor m (chunkOf c) .after)
+  pub level : (n k : ℕ) → needOf n ≡ pages k → draw w s (allocFor m (pages k) .after) ≡ redrawn w s (allocFor m (pages k) .after)
+  pub back : s ≡ redrawn w s m
   pub run : (k : ℕ) (r : Run) → 1 ≤ k → fit k (m .runs) ≡ some r → runTaken w s (r .start) k ≡ draw w s (allocRun m k (some r) .after)
 
 -- answer and slice of a call
 pub record Does (w : ℕ) (s : List ℕ) (o : Outcome) (t : List ℕ) (r : Reply) : Type 0 where
   pub answer : o ≡ outcome (r .answer)
   pub slice : t ≡ draw w s (r .after)
+
+-- the same, with the peaks raised
+pub record Redone (w : ℕ) (s : List ℕ) (o : Outcome) (t : List ℕ) (r : Reply) : Type 0 where
+  pub answer : o ≡ outcome (r .answer)
+  pub slice : t ≡ redrawn w s (r .after)
 
 module _ {w : ℕ} {s : List ℕ} {P : ℕ} {m : State} (F : AllocFacts w s P m) where
   -- a new page, or none
@@ -79,11 +89,19 @@ module _ {w : ℕ} {s : List ℕ} {P : ℕ} {m : State} (F : AllocFacts w s P m)
   unfolding pagesOutcome pagesSlice allocFor
   pages-does k h = rw (F .fits k h) (run-does k h (fit k (m .runs)) refl)
 
-  pub alloc-does : (n : ℕ) → Does w s (allocOutcome w s P n) (allocSlice w s P n) (alloc m n)
+  -- with the peaks raised
+  small-redone : (n c : ℕ) → needOf n ≡ chunkOf c → c ≤ 8 → Redone w s (classOutcome w s P c) (smallSlice w s P c) (allocFor m (chunkOf c))
+  unfolding smallSlice
+  small-redone n c e h = let D = class-does c h in record { answer = D .answer; slice = ap (λ (t : List ℕ). peakRaised w t c) (D .slice) ∙ F .peak n c e h }
+
+  pages-redone : (n k : ℕ) → needOf n ≡ pages k → 1 ≤ k → Redone w s (pagesOutcome w s P k) (pagesSlice w s P k) (allocFor m (pages k))
+  pages-redone n k e h = let D = pages-does k h in record { answer = D .answer; slice = D .slice ∙ F .level n k e }
+
+  pub alloc-does : (n : ℕ) → Redone w s (allocOutcome w s P n) (allocSlice w s P n) (alloc m n)
   unfolding allocOutcome allocSlice alloc needOf pick pagesFor
   alloc-does n = go (eq? n 0) (lt? 2048 n)
     where
-      go : (n ≡ 0) ⊎ (n ≢ 0) → (2048 < n) ⊎ (n ≤ 2048) → Does w s (allocOutcome w s P n) (allocSlice w s P n) (alloc m n)
-      go (inl z) t = rw (eq-eqb n 0 z) (unfold allocFor refuse nothingAsked in (record { answer = refl; slice = sym (F .same) }))
-      go (inr z) (inr h) = rw (ne-eqb n 0 z, le-leb n 2048 h, class-is n h) (class-does (classOf n) (class-ok n h))
-      go (inr z) (inl h) = rw (ne-eqb n 0 z, lt-leb n 2048 h) (pages-does (pagesFor n) (omega arith))
+      go : (n ≡ 0) ⊎ (n ≢ 0) → (2048 < n) ⊎ (n ≤ 2048) → Redone w s (allocOutcome w s P n) (allocSlice w s P n) (alloc m n)
+      go (inl z) t = rw (eq-eqb n 0 z) (unfold allocFor refuse nothingAsked in (record { answer = refl; slice = F .back }))
+      go (inr z) (inr h) = rw (ne-eqb n 0 z, le-leb n 2048 h, class-is n h) (small-redone n (classOf n) (rw (ne-eqb n 0 z, le-leb n 2048 h)) (class-ok n h))
+      go (inr z) (inl h) = rw (ne-eqb n 0 z, lt-leb n 2048 h) (pages-redone n (pagesFor n) (rw (ne-eqb n 0 z, lt-leb n 2048 h)) (omega arith))

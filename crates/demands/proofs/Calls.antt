@@ -24,18 +24,18 @@ use Rattle.model.specs.WellFormed.{ClassOk, WellFormed}
 use Rattle.model.specs.Calls.{Call, Alloc, Free, Answer, at, freed, no, noRoom, outside, notTaken, notAStart, nothingAsked, refuse, tallied, allocFor, alloc, freeChunk, freeAt, free, step}
 use Rattle.model.specs.Live.{Block, offset, extent, Off, Live}
 use Rattle.model.specs.Effects.{Effect, FreeEffect}
-use Rattle.model.specs.View.{View, Kind, vacant, class, runOf, within, shown}
+use Rattle.model.specs.View.{View, Kind, vacant, class, runOf, within, usedOf, shown}
 use Rattle.model.specs.Ruling.{Verdict, granted as allowed, refused as denied, verdict, clearIn, pageIn, runIn, allocRuling, freeRuling, pastEnd, ruling}
 use Rattle.model.proofs.Claim.{claims}
 use Rattle.model.proofs.Classes.{bitmap-in-page, own-some, small-chunks, large-chunks}
 use Rattle.rules.specs.Bytes.{pagesIn, mapBase, brokenRule, read}
 use Rattle.rules.specs.Read.{readFields}
 use Rattle.rules.proofs.Drawn.{fields-drawn}
-use Rattle.drawing.specs.Draw.{mapHas, inMap, draw}
+use Rattle.drawing.specs.Draw.{mapHas, inMap, draw, raised}
 use Rattle.drawing.specs.Claim.{Fitting, Laws}
 use Rattle.drawing.proofs.Encoding.{fields-bounds}
 use Rattle.drawing.proofs.Laws.{none-broken, claims as laws-of}
-use Rattle.demands.specs.Calls.{outcome, answered, clearedAt, cleared, after}
+use Rattle.demands.specs.Calls.{outcome, answered, clearedAt, cleared, redrawn, after}
 use Rattle.demands.specs.Shown.{shownBy}
 use Rattle.demands.specs.Demands.{numberIn, liveIn, Demand1, Demand2}
 use Rattle.demands.proofs.Shown.{view-shown}
@@ -111,12 +111,12 @@ module _ (w : ℕ) (s : List ℕ) where
     cleared-bytes B inside = B
     cleared-bytes B edge = B
 
-  under-length : (call : Call) → length (cleared w s call) ≡ length s
+  pub under-length : (call : Call) → length (cleared w s call) ≡ length s
   unfolding cleared
   under-length (Alloc n) = refl
   under-length (Free off) = cleared-length (off / 4096) (off % 4096) (read w s .page (off / 4096))
 
-  under-bytes : Bytes s → (call : Call) → Bytes (cleared w s call)
+  pub under-bytes : Bytes s → (call : Call) → Bytes (cleared w s call)
   unfolding cleared
   under-bytes B (Alloc n) = B
   under-bytes B (Free off) = cleared-bytes (off / 4096) (off % 4096) B (read w s .page (off / 4096))
@@ -136,6 +136,10 @@ module _ (w : ℕ) (s : List ℕ) where
   refused-clears m p q k (taken n) e = refl
   refused-clears m p q k inside e = refl
   refused-clears m p q k edge e = refl
+
+tallied-used : (m : State) (c d : ℕ) → usedOf (tallied m c) d ≡ usedOf m d
+unfolding usedOf tallied
+tallied-used m c d = refl
 
 module _ (w : ℕ) (wide : 2 ≤ w) (narrow : w ≤ 255) (s : List ℕ) (B : Bytes s) where
   abbrev L : Laws w s
@@ -173,22 +177,31 @@ module _ (w : ℕ) (wide : 2 ≤ w) (narrow : w ≤ 255) (s : List ℕ) (B : Byt
       unfolding answered
       sound-answer = pick-yes _ _ _ (eq-eqb (brokenRule w s) 0 sound)
 
-      pub drawn-after : after w s call ≡ draw w (cleared w s call) (step m call .after)
+      pub drawn-after : after w s call ≡ redrawn w (cleared w s call) (step m call .after)
       unfolding after
       drawn-after = pick-yes _ _ _ (eq-eqb (brokenRule w s) 0 sound)
 
-      -- the next state, over the bytes with a freed chunk's mark cleared
-      N : Laws w (cleared w s call)
-      N = laws-of w wide narrow (cleared w s call) (under-bytes w s B call)
+      -- the bytes with a freed chunk's mark cleared, which have room for the next state
+      pub C : Laws w (cleared w s call)
+      C = laws-of w wide narrow (cleared w s call) (under-bytes w s B call)
 
-      G : Fitting w (cleared w s call) (step m call .after)
-      G = let K = L .next-fits m F call in
+      pub H : Fitting w (cleared w s call) (step m call .after)
+      H = let K = L .next-fits m F call in
           record { well = K .well; size = K .size ∙ ap (pageCount w) (sym (under-length w s call)); few = K .few }
 
+      -- the next state, over those bytes with its peaks raised
+      pub N : Laws w (raised w (cleared w s call) (step m call .after))
+      N = laws-of w wide narrow (raised w (cleared w s call) (step m call .after)) (C .raised-bytes (step m call .after))
+
+      pub G : Fitting w (raised w (cleared w s call) (step m call .after)) (step m call .after)
+      G = record { well = H .well; size = H .size ∙ ap (pageCount w) (sym (C .raised-length (step m call .after))); few = H .few }
+
       pub after-sound : brokenRule w (after w s call) ≡ 0
-      after-sound = ap (brokenRule w) drawn-after ∙ N .drawn-sound (step m call .after) G
+      unfolding redrawn
+      after-sound = ap (brokenRule w) drawn-after ∙ N .drawn-sound (step m call .after) G (C .raised-peaked (step m call .after) H)
 
       pub after-read : read w (after w s call) ≡ step m call .after
+      unfolding redrawn
       after-read = ap (read w) drawn-after ∙ N .drawn-read (step m call .after) G
 
       number-is : answered w s call .number ≡ numberIn (ruling (shownBy w s) call)
@@ -208,28 +221,39 @@ module _ (w : ℕ) (wide : 2 ≤ w) (narrow : w ≤ 255) (s : List ℕ) (B : Byt
       refusal-number k e = ap (λ (o : Outcome). o .number) sound-answer ∙ ap (λ (x : Answer). outcome x .number) e
 
     -- ---- refused calls
+
+    -- drawn where no class has more in use, the peaks stay
+    pub level-drawn : (n : State) → ((c : ℕ) → usedOf n c ≤ usedOf m c) → redrawn w s n ≡ draw w s n
+    unfolding redrawn
+    level-drawn n few =
+        let Q = L .sound-peaked sound in
+        ap (λ (t : List ℕ). draw w t n) (L .raised-same n (record { high = λ deep c h. omega (arith, few c, Q .high deep c h); spare = Q .spare }))
+
+    pub back-drawn : redrawn w s m ≡ s
+    back-drawn = level-drawn m (λ c. omega arith) ∙ L .sound-drawn sound
+
     nothing-asked : (answered w s (Alloc 0) ≡ refused NothingAsked) × (after w s (Alloc 0) ≡ s)
     unfolding cleared step alloc needOf allocFor refuse nothingAsked
-    nothing-asked = (sound-answer (Alloc 0), drawn-after (Alloc 0) ∙ L .sound-drawn sound)
+    nothing-asked = (sound-answer (Alloc 0), drawn-after (Alloc 0) ∙ back-drawn)
 
     refused-run : (n k : ℕ) → needOf n ≡ pages k → answered w s (Alloc n) .number ≢ 0 → after w s (Alloc n) ≡ s
     unfolding cleared
     refused-run n k e d =
         let (j, a) = refusal (Alloc n) d in
-        drawn-after (Alloc n) ∙ ap (draw w s) (claims .refusals m .run n k j e a) ∙ L .sound-drawn sound
+        drawn-after (Alloc n) ∙ ap (redrawn w s) (claims .refusals m .run n k j e a) ∙ back-drawn
 
     refused-chunk : (n c : ℕ) → needOf n ≡ chunkOf c → answered w s (Alloc n) .number ≢ 0 → after w s (Alloc n) ≡ draw w s (tallied m c)
     unfolding cleared
     refused-chunk n c e d =
         let (j, a) = refusal (Alloc n) d in
-        drawn-after (Alloc n) ∙ ap (draw w s) (claims .refusals m .chunk n c j e a)
+        drawn-after (Alloc n) ∙ ap (redrawn w s) (claims .refusals m .chunk n c j e a) ∙ level-drawn (tallied m c) (λ d. omega (arith, tallied-used m c d))
 
     refused-free : (off : ℕ) → answered w s (Free off) .number ≢ 0 → after w s (Free off) ≡ s
     unfolding cleared step free
     refused-free off d =
         let (j, a) = refusal (Free off) d in
         let same : cleared w s (Free off) ≡ s = refused-clears w s m (off / 4096) (off % 4096) j (m .page (off / 4096)) a in
-        drawn-after (Free off) ∙ rw (same, claims .refusals m .free off j a) (L .sound-drawn sound)
+        drawn-after (Free off) ∙ rw (same, claims .refusals m .free off j a) back-drawn
 
     free-tells : (e : Block) → liveIn w s e → answered w s (Free (offset e)) ≡ granted (extent e)
     free-tells e l = sound-answer (Free (offset e)) ∙ ap outcome (claims .live-freed m W e l)
@@ -344,11 +368,15 @@ module _ (w : ℕ) (wide : 2 ≤ w) (narrow : w ≤ 255) (s : List ℕ) (B : Byt
       next-size : step m call .after .size ≡ pagesIn w s
       next-size = L .next-fits m F call .size
 
+      under-raised : (i : ℕ) → from ≤ i → getD (raised w (cleared w s call) (step m call .after)) i 0 ≡ getD (cleared w s call) i 0
+      under-raised i h = C call .raised-kept (step m call .after) i (rw (ap (pageCount w) (under-length w s call)) h)
+
       pub outside-kept : (i : ℕ) → from ≤ i → inMap from m i ≡ false → inMap from (step m call .after) i ≡ false → getD (after w s call) i 0 ≡ getD s i 0
+      unfolding redrawn
       outside-kept i h old new =
           ap (λ (x : List ℕ). getD x i 0) (drawn-after call)
           ∙ N call .drawn-kept (step m call .after) i (rw next-size h) (rw next-size new)
-          ∙ under-kept call i h old
+          ∙ under-raised i h ∙ under-kept call i h old
 
       -- a block lies off the maps of a state
       off-maps : (n : State) (e : Block) → ((p c : ℕ) (b : ℕ → Bool) → n .page p ≡ slab c b → (c ≤ 8) × Off e (4096 * p) (chunk c * own c)) →
@@ -395,9 +423,10 @@ module _ (w : ℕ) (wide : 2 ≤ w) (narrow : w ≤ 255) (s : List ℕ) (B : Byt
         go (inr d) = other d
 
   pub demand1 : Demand1 w s
+  unfolding redrawn
   demand1 = record {
     length-kept = λ call. either
-        (λ e. ap length (drawn-after e call) ∙ N e call .drawn-length (step m call .after) ∙ under-length w s call)
+        (λ e. ap length (drawn-after e call) ∙ N e call .drawn-length (step m call .after) ∙ C e call .raised-length (step m call .after) ∙ under-length w s call)
         (λ d. ap length (unsound-after d call));
     bytes-kept = λ call. either
         (λ e. subst Bytes (sym (drawn-after e call)) (N e call .drawn-bytes (step m call .after) (G e call)))

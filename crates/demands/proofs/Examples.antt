@@ -77,8 +77,7 @@ module _ (slice : ℕ → List ℕ) (ok : (P : ℕ) → 1 ≤ P → P ≤ maxPag
     s = formatted 2 (slice P)
 
     bytes : Bytes s
-    bytes = let X = laws-of 2 (omega arith) (omega arith) (slice P) (A .bytes) in
-        rw (X .format-drawn (A .some) (A .most)) (X .drawn-bytes (fresh (pagesIn 2 (slice P))) (X .fresh-fits (A .some) (A .most)))
+    bytes = laws-of 2 (omega arith) (omega arith) (slice P) (A .bytes) .format-bytes (A .some) (A .most)
 
     sound : brokenRule 2 s ≡ 0
     sound = laws-of 2 (omega arith) (omega arith) (slice P) (A .bytes) .format-sound (A .some) (A .most)

@@ -36,7 +36,8 @@ use Rattle.alloc_sound.specs.Mirror.{allocOutcome, allocSlice}
 use Rattle.locate.specs.Mirror.{marked}
 use Rattle.free_sound.specs.Mirror.{freeOutcome, freeSlice}
 use Rattle.demands.specs.Calls.{answered, cleared, after}
-use Rattle.demands.proofs.Calls.{sound-answer, drawn-after}
+use Rattle.demands.proofs.Calls.{sound-answer, drawn-after, back-drawn}
+use Rattle.demands.proofs.Peaks.{chunk-raised, pages-level, free-level}
 use Rattle.demands.proofs.Allocs.{AllocFacts, alloc-does}
 use Rattle.demands.proofs.Frees.{FreeFacts, free-does}
 use Rattle.demands.proofs.Facts.{fitting, same, few, first-page, links-are, fit-is, past, ends, listed-page, run-found, marks-are, lowest-is, listed-slab}
@@ -71,6 +72,9 @@ module _ (w : ℕ) (wide : 2 ≤ w) (narrow : w ≤ 255) (s : List ℕ) (B : Byt
         ∙ L .taken p c (marksOf (m .page p)) rest (listed-slab w wide narrow s B sound c p rest e) e;
     cut = λ c r h e f. on (λ t n. pageCut w t n c (r .start)) ∙ L .cut c r h e f;
     refuse-chunk = λ c h. on (λ t n. chunkRefused w t c) ∙ L .refused c h;
+    peak = chunk-raised w wide narrow s B sound;
+    level = pages-level w wide narrow s B sound;
+    back = sym (back-drawn w wide narrow s B sound);
     run = λ k r h f. on (λ t n. runTaken w t (r .start) k) ∙ run-taken w wide narrow (F .well) small s (F .size) k h r f;
   }
 
@@ -111,8 +115,10 @@ module _ (w : ℕ) (wide : 2 ≤ w) (narrow : w ≤ 255) (s : List ℕ) (B : Byt
   pub free-met : (off : ℕ) → (freeOutcome w s (pagesIn w s) off ≡ answered w s (Free off)) × (freeSlice w s (pagesIn w s) off ≡ after w s (Free off))
   unfolding cleared step
   free-met off =
-      let D = free-does free-facts off in
-      (D .answer ∙ sym (sound-answer w wide narrow s B sound (Free off)), D .slice ∙ sym (drawn-after w wide narrow s B sound (Free off)))
+      let D = free-does free-facts off in (
+        D .answer ∙ sym (sound-answer w wide narrow s B sound (Free off)),
+        D .slice ∙ free-level w wide narrow s B sound off ∙ sym (drawn-after w wide narrow s B sound (Free off)),
+      )
 
 -- ---- from what validation answers
 

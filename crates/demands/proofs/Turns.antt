@@ -134,14 +134,13 @@ module _ (w : ℕ) (wide : 2 ≤ w) (narrow : w ≤ 255) (P : ℕ) where
 pub demand3 : (w : ℕ) → 2 ≤ w → w ≤ 255 → (s : List ℕ) → Bytes s → Demand3 w s
 demand3 w wide narrow s C B u R =
     let X = laws-of w wide narrow s C in
-    let drawn = X .format-drawn (R .some) (R .most) in
     let fits = X .fresh-fits (R .some) (R .most) in
     subst (λ (L : List Block). Faithful w (pagesIn w s) L u) (R .live)
     (turns w wide narrow (pagesIn w s) (R .turns) (formatted w s) []
     (record {
-      bytes = subst Bytes (sym drawn) (X .drawn-bytes (fresh (pagesIn w s)) fits);
+      bytes = X .format-bytes (R .some) (R .most);
       sound = X .format-sound (R .some) (R .most);
-      size = ap (pageCount w) (ap length drawn ∙ X .drawn-length (fresh (pagesIn w s)));
+      size = ap (pageCount w) (X .format-length (R .some) (R .most));
       live = rw (X .format-read (R .some) (R .most)) (none (pagesIn w s) (fits .well .some-page));
     })
     (R .allowed) u (R .since))

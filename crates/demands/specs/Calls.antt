@@ -9,10 +9,10 @@ use Rattle.answers.specs.declared.Refusal.the-variants.{NotSound}
 use Rattle.maps.specs.Bitmap.{withMark}
 use Rattle.base.specs.Functions.{upd}
 use Rattle.model.specs.Classes.{chunk, hasTaken, startsChunk}
-use Rattle.model.specs.State.{Page, idle, slab, taken, inside, edge}
+use Rattle.model.specs.State.{Page, idle, slab, taken, inside, edge, State}
 use Rattle.model.specs.Calls.{Call, Alloc, Free, Answer, at, freed, no, step}
 use Rattle.rules.specs.Bytes.{pagesIn, mapBase, brokenRule, read}
-use Rattle.drawing.specs.Draw.{draw}
+use Rattle.drawing.specs.Draw.{draw, raised}
 
 -- the model's answer as number and value (SPEC 4.1)
 abbrev pub outcome : Answer → Outcome
@@ -40,6 +40,10 @@ unfoldable pub cleared : ℕ → List ℕ → Call → List ℕ
 cleared w s (Alloc n) = s
 cleared w s (Free off) = clearedAt w s (off / 4096) (off % 4096) (read w s .page (off / 4096))
 
+-- a state drawn over s with its peaks raised
+unfoldable pub redrawn : (w : ℕ) (s : List ℕ) (m : State) → List ℕ
+redrawn w s m = draw w (raised w s m) m
+
 -- unsound records stay as they are; on sound ones the model's next state is drawn
 unfoldable pub after : (w : ℕ) (s : List ℕ) (call : Call) → List ℕ
-after w s call = pick (eqb (brokenRule w s) 0) (draw w (cleared w s call) (step (read w s) call .after)) s
+after w s call = pick (eqb (brokenRule w s) 0) (redrawn w (cleared w s call) (step (read w s) call .after)) s

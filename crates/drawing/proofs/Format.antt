@@ -21,7 +21,7 @@ use Rattle.model.specs.Classes.{own, counted}
 use Rattle.model.specs.State.{idle, edge, Run}
 use Rattle.model.specs.Calls.{fresh}
 use Rattle.model.specs.View.{totalIn, usedOf, shown}
-use Rattle.image.specs.Image.{paint, Same}
+use Rattle.image.specs.Image.{paint, withPeaks, Same}
 use Rattle.image.proofs.Paint.{paint-ext}
 use Rattle.format.specs.Format.{shortest, tooLong, insideFree, firstFree, freshImage, formatted}
 use Rattle.rules.specs.Rules.{freeIn}
@@ -38,6 +38,10 @@ count-all q (suc n) e = let ih = count-all q n (λ j l. e j (omega arith)) in rw
 count-none : (q : ℕ → Bool) (n : ℕ) → ((j : ℕ) → j < n → q j ≡ false) → count q n ≡ 0
 unfolding count
 count-none q n e = sum-zero _ n (λ j l. rw (e j l))
+
+pub fresh-used : (P c : ℕ) → usedOf (fresh P) c ≡ 0
+unfolding usedOf fresh
+fresh-used P c = sum-zero _ P (λ p h. rw (lt-ltb p P h) (count-none _ _ (λ i l. and-false (leb (own c) i))))
 
 module _ (P : ℕ) where
   page-in : (p : ℕ) → p < P → fresh P .page p ≡ idle
@@ -79,16 +83,11 @@ module _ (P : ℕ) where
     image-fresh = record {
       free-pages = unfold fresh freeIn in sym (count-all _ P (λ p h. rw (lt-ltb p P h)));
       first-run = unfold fresh in refl;
-      class = λ c h i. unfold fresh in classRecord noPage (sym (none-used c) i) (sym (none-total c) i) (fresh P .tally c);
+      class = λ c h i. unfold fresh in classRecord noPage (sym (fresh-used P c) i) (sym (none-total c) i) (fresh P .tally c);
       map = λ p h. rw (page-in p h);
       links = λ p h. rw (page-in p h) (unfold fresh in free-links p);
     }
       where
-        none-used : (c : ℕ) → usedOf (fresh P) c ≡ 0
-        none-used c =
-            unfold usedOf fresh in
-            sum-zero _ P (λ p h. rw (lt-ltb p P h) (count-none _ _ (λ i l. and-false (leb (own c) i))))
-
         none-total : (c : ℕ) → shown (fresh P) .total c ≡ 0
         none-total c =
             unfold shown totalIn fresh in
@@ -100,7 +99,7 @@ module _ (P : ℕ) where
         rw (← mapped-is w (fresh P) s s refl (λ i f. refl) (λ p j l t. absurd (clash t (no-maps p j)))) (paint-ext w P (freshImage P) (stateImage (fresh P)) s image-fresh)
 
 -- a slice of an accepted length becomes the drawing of a fresh pool
-pub formatted-drawn : (w : ℕ) (s : List ℕ) → shortest w ≤ length s → length s < tooLong w → formatted w s ≡ draw w s (fresh (pagesIn w s))
+pub formatted-drawn : (w : ℕ) (s : List ℕ) → shortest w ≤ length s → length s < tooLong w → formatted w s ≡ draw w (withPeaks w (λ c. 0) s) (fresh (pagesIn w s))
 unfolding formatted pick
 formatted-drawn w s some most =
-    rw (le-ltb (length s) (shortest w) some, lt-leb (tooLong w) (length s) most) (drawn-fresh (pagesIn w s) (omega arith) w s)
+    rw (le-ltb (length s) (shortest w) some, lt-leb (tooLong w) (length s) most) (drawn-fresh (pagesIn w s) (omega arith) w (withPeaks w (λ c. 0) s))

@@ -90,6 +90,10 @@ module _ (w : ℕ) (m : State) (s : List ℕ) where
       go (inr e) h = rw (mapped-kept i e) (B i)
 
   -- byte j of the map of page p
+  pub mapped-has : (p j : ℕ) → j < 4096 → mapHas (m .page p) j ≡ true → pagesFrom w (m .size) + 4096 * p + j < length s
+      → getD (mapped w m s) (pagesFrom w (m .size) + 4096 * p + j) 0 ≡ mapByte (m .page p) j
+  mapped-has p j l t h = byte-mapped _ h ∙ mapped-at (pagesFrom w (m .size)) m p j _ l refl s t
+
   pub mapped-map : (p c : ℕ) (k : ℕ → Bool) → m .page p ≡ slab c k → c < 3 → (j : ℕ) → 8 * j < chunks c → pagesFrom w (m .size) + 4096 * p + j < length s
       → getD (mapped w m s) (pagesFrom w (m .size) + 4096 * p + j) 0 ≡ bitsOf (λ i. k (8 * j + i)) 8
   unfolding mapByte pick

@@ -1,24 +1,26 @@
 -- Pools with the same records show the same fields.
-use mathlib.Core.Path.{_≡_, sym, ap, _∙_, fun-ext}
+use mathlib.Core.Path.{_≡_, refl, sym, ap, _∙_, fun-ext}
 use mathlib.Core.Logic.{_⊎_, inl, inr, ⊎-elim}
 use mathlib.Core.List.{List}
 use Prim.Native.Nat.{ℕ, _+_, _*_, _/_, _%_, _≤_, _<_}
 use native.Mathlib.Omega.{arith}
 use lib.ListN.{length, getD}
 use Rattle.image.specs.Image.{Same}
+use borrow.Author.Tests.{ltb-true}
+use Rattle.base.proofs.AllBelow.{pick-same, all-same}
 use Rattle.base.proofs.Cases.{lt?}
 use Rattle.words.specs.Word.{word}
 use Rattle.words.proofs.Laws.{words, here?, word-in, word-out}
-use Rattle.records.specs.Layout.{countsPlace, tallyPlace, mapPlace, linksPlace, pagesFrom, pageCount}
+use Rattle.records.specs.Layout.{countsPlace, tallyPlace, peakPlace, mapPlace, linksPlace, pagesFrom, pageCount}
 use Rattle.records.specs.declared.Header.{Header}
 use Rattle.records.specs.Header.{unpackHeader, headerAt}
-use Rattle.records.specs.Class.{classAt}
+use Rattle.records.specs.Class.{classAt, peakAt, peakSpare}
 use Rattle.records.specs.Page.{unpackLinks, linksAt}
 use Rattle.model.specs.Classes.{chunks}
 use Rattle.maps.proofs.Marks.{mark-byte}
 use Rattle.image.proofs.Places.{class-below}
 use Rattle.rules.specs.Fields.{class}
-use Rattle.rules.specs.Bytes.{pagesIn, markAt, imageOf, fieldsOf, rule1}
+use Rattle.rules.specs.Bytes.{pagesIn, markAt, imageOf, fieldsOf, rule1, peakFits, peaksFit}
 use Rattle.rules.specs.Agree.{Agree}
 use Rattle.drawing.specs.Noise.{SameRecords}
 use Rattle.model.proofs.Classes.{large-chunks}
@@ -84,3 +86,18 @@ module _ (w : ℕ) (wide : 2 ≤ w) (s t : List ℕ) (S : SameRecords w s t) whe
   pub rule1-same : rule1 w s ≡ rule1 w t
   unfolding rule1
   rule1-same = rw (header-same, S .lengths)
+
+  pub peak-kept : (c : ℕ) → c < 9 → 2 < w → peakAt w s c ≡ peakAt w t c
+  unfolding peakAt
+  peak-kept c h deep = let k : word s (peakPlace w c) ≡ word t (peakPlace w c) = word-same (peakPlace w c) (omega (arith, class-below w wide c h)) in rw k
+
+  peak-same : (c : ℕ) → c < 9 → 2 < w → peakFits w s c ≡ peakFits w t c
+  unfolding peakFits peakAt peakSpare imageOf
+  peak-same c h deep =
+      let k : word s (peakPlace w c) ≡ word t (peakPlace w c) = word-same (peakPlace w c) (omega (arith, class-below w wide c h)) in
+      let r : classAt w s c ≡ classAt w t c = image-same .class c h in
+      rw (k, r)
+
+  pub peaks-same : peaksFit w s ≡ peaksFit w t
+  unfolding peaksFit
+  peaks-same = pick-same _ _ refl (λ e. all-same (peakFits w s) (peakFits w t) 9 (λ c h. peak-same c h (ltb-true 2 w e))) (λ e. refl)

@@ -129,7 +129,7 @@ pub record Alike (i : ℕ) (s t : List ℕ) : Type 0 where
   pub lengths : length s ≡ length t
   pub byte : getD s i 0 ≡ getD t i 0
 
-setWord-alike : {s t : List ℕ} (k v i : ℕ) → Alike i s t → Alike i (setWord s k v) (setWord t k v)
+pub setWord-alike : {s t : List ℕ} (k v i : ℕ) → Alike i s t → Alike i (setWord s k v) (setWord t k v)
 setWord-alike {s} {t} k v i A = record {
   lengths = length-setWord s k v ∙ A .lengths ∙ sym (length-setWord t k v);
   byte = go (in? (8 * k) 8 i) (here? s k);

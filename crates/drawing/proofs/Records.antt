@@ -21,7 +21,7 @@ module _ (at : ℕ → ℕ) where
   write-back zero f s B e = refl
   write-back (suc n) f s B e = rw (write-back n f s B (λ i l. e i (omega arith)), e n (omega arith)) (setWord-back s (at n) B)
 
-  write-keeps : (n : ℕ) (f : ℕ → ℕ) (s : List ℕ) → Bytes s → ((i : ℕ) → i < n → f i < 18446744073709551616) → Bytes (writeAt at n f s)
+  pub write-keeps : (n : ℕ) (f : ℕ → ℕ) (s : List ℕ) → Bytes s → ((i : ℕ) → i < n → f i < 18446744073709551616) → Bytes (writeAt at n f s)
   unfolding writeAt
   write-keeps zero f s B h = B
   write-keeps (suc n) f s B h = setWord-keeps _ (at n) (f n) (write-keeps n f s B (λ i l. h i (omega arith))) (h n (omega arith))

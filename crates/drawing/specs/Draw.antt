@@ -2,14 +2,16 @@
 use Prim.Native.Nat.{ℕ, zero, suc, _+_, _-_, _*_, _/_, _%_}
 use mathlib.Core.Bool.{Bool, false}
 use mathlib.Core.List.{List, [], _∷_}
-use lib.Dec.{ltb}
+use lib.Dec.{leb, ltb}
 use lib.ListN.{length, getD}
 use Rattle.base.specs.Tests.{pick}
 use Rattle.records.specs.Layout.{pagesFrom}
+use Rattle.records.specs.Class.{peakAt}
 use Rattle.model.specs.Classes.{chunks}
 use Rattle.model.specs.State.{Page, idle, slab, taken, inside, edge, State, marksOf}
+use Rattle.model.specs.View.{usedOf}
 use Rattle.maps.specs.Bitmap.{bitsOf}
-use Rattle.image.specs.Image.{paint}
+use Rattle.image.specs.Image.{paint, withPeaks}
 use Rattle.rules.specs.Drawn.{stateImage}
 
 -- byte j of a page belongs to its map: those of classes 8, 16 and 32 stand at the start of the page
@@ -42,3 +44,12 @@ mapped w m s = tab (length s) (mappedByte (pagesFrom w (m .size)) m s)
 
 unfoldable pub draw : (w : ℕ) (s : List ℕ) (m : State) → List ℕ
 draw w s m = paint w (m .size) (stateImage m) (mapped w m s)
+
+-- ---- the peaks, which lie beneath the drawing
+
+abbrev pub larger : (a b : ℕ) → ℕ
+larger a b = pick (leb a b) b a
+
+-- s with each peak raised to what the state has in use, where that is more
+unfoldable pub raised : (w : ℕ) (s : List ℕ) (m : State) → List ℕ
+raised w s m = withPeaks w (λ c. larger (peakAt w s c) (usedOf m c)) s

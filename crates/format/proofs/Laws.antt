@@ -8,22 +8,28 @@ use borrow.Author.Tests.{lt-ltb, le-ltb, le-leb, lt-leb}
 use Rattle.base.specs.Tests.{pick}
 use Rattle.records.specs.Layout.{pageCount}
 use Rattle.records.specs.Header.{withHeader}
-use Rattle.image.specs.Image.{headerOf, paint, setLinks}
+use Rattle.records.specs.Class.{packPeak}
+use Rattle.image.specs.Image.{headerOf, paint, withPeaks, setLinks}
 use Rattle.image.proofs.Paint.{links-paint}
 use Rattle.answers.specs.Outcome.{granted, refused}
 use Rattle.answers.specs.declared.Refusal.the-variants.{TooShort, TooLong}
 use Rattle.format.specs.Format.{shortest, tooLong, formatOutcome, insideFree, firstFree, allFree, freshImage, formatted}
-use Rattle.format.specs.Mirror.{filled, classesCleared, pagesCleared, runLinked, written}
+use Rattle.format.specs.Mirror.{filled, peaksCleared, classesCleared, pagesCleared, runLinked, written}
 
 pub cleared-paint : (w P : ℕ) (s : List ℕ) → pagesCleared w P (classesCleared w (withHeader s (headerOf w P P 0))) ≡ paint w P (allFree P) s
 unfolding pagesCleared classesCleared filled withHeader paint
 cleared-paint w P s = refl
 
-pub written-paint : (w P : ℕ) (s : List ℕ) → 2 ≤ w → 1 ≤ P → written w P s ≡ paint w P (freshImage P) s
+peaks-cleared : (w : ℕ) (s : List ℕ) → peaksCleared w s ≡ withPeaks w (λ c. 0) s
+unfolding peaksCleared withPeaks filled packPeak
+peaks-cleared w s = refl
+
+pub written-paint : (w P : ℕ) (s : List ℕ) → 2 ≤ w → 1 ≤ P → written w P s ≡ paint w P (freshImage P) (withPeaks w (λ c. 0) s)
 unfolding written runLinked freshImage
 written-paint w P s wide some =
-    rw (cleared-paint w P s, links-paint w P wide (allFree P) s (P - 1) (insideFree 0) (omega arith))
-    (links-paint w P wide (setLinks (allFree P) (P - 1) (insideFree 0)) s 0 (firstFree P) some)
+    let u : List ℕ = withPeaks w (λ c. 0) s in
+    rw (peaks-cleared w s, cleared-paint w P u, links-paint w P wide (allFree P) u (P - 1) (insideFree 0) (omega arith))
+    (links-paint w P wide (setLinks (allFree P) (P - 1) (insideFree 0)) u 0 (firstFree P) some)
 
 module _ (w : ℕ) (s : List ℕ) where
   pub short-outcome : length s < shortest w → refused TooShort ≡ formatOutcome w (length s)

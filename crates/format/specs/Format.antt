@@ -8,7 +8,7 @@ use Rattle.records.specs.Layout.{noPage, pageCount}
 use Rattle.model.specs.Classes.{maxPages}
 use Rattle.records.specs.declared.Links.{Links}
 use Rattle.records.specs.Class.{emptyClass}
-use Rattle.image.specs.Image.{Image, paint, setLinks}
+use Rattle.image.specs.Image.{Image, paint, withPeaks, setLinks}
 use Rattle.answers.specs.Outcome.{Outcome, granted, refused}
 use Rattle.answers.specs.declared.Refusal.the-variants.{TooShort, TooLong}
 
@@ -43,8 +43,8 @@ allFree P = record { freePages = P; firstRun = 0; class = λ c. emptyClass; map 
 unfoldable pub freshImage : ℕ → Image
 freshImage P = setLinks (setLinks (allFree P) (P - 1) (insideFree 0)) 0 (firstFree P)
 
--- header, class records and page records are written; page bytes and tail stay
+-- header, class records and page records are written, with peaks of 0; page bytes and tail stay
 unfoldable pub formatted : (w : ℕ) (s : List ℕ) → List ℕ
 formatted w s =
     pick (ltb (length s) (shortest w)) s
-    (pick (leb (tooLong w) (length s)) s (paint w (pageCount w (length s)) (freshImage (pageCount w (length s))) s))
+    (pick (leb (tooLong w) (length s)) s (paint w (pageCount w (length s)) (freshImage (pageCount w (length s))) (withPeaks w (λ c. 0) s)))

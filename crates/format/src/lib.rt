@@ -17,7 +17,7 @@ ghost use lib.ListN.{length};
 ghost use Rattle.answers.specs.Outcome.{ofFormat};
 ghost use Rattle.image.specs.Image.{headerOf};
 ghost use Rattle.format.specs.Format.{formatOutcome, insideFree, firstFree, formatted};
-ghost use Rattle.format.specs.Mirror.{filled, classesCleared, pagesCleared, runLinked, written};
+ghost use Rattle.format.specs.Mirror.{filled, peaksCleared, classesCleared, pagesCleared, runLinked, written};
 
 // The header of a pool of one free run.
 fn fresh_header(w: u8, pages: u16) -> Header
@@ -69,6 +69,15 @@ fn fill(pool: &mut [u8], from: u16, step: u8, n: u16, v: u64)
     }
 }
 
+// Edition 1 has no peaks.
+fn clear_peaks(pool: &mut [u8], w: u8)
+    ensures { λ _. ⌜ now (pool .exit) ≡ peaksCleared w (now (pool .entry)) ⌝ }
+{
+    if 2 < w {
+        fill(pool, 3, w, 9, 0);
+    }
+}
+
 fn clear_classes(pool: &mut [u8], w: u8)
     ensures { λ _. ⌜ now (pool .exit) ≡ classesCleared w (now (pool .entry)) ⌝ }
 {
@@ -115,6 +124,7 @@ fn write_records(pool: &mut [u8], w: u8, pages: u16)
     requires { ⌜ (1 ≤ w) × (1 ≤ pages) ⌝ }
     ensures { λ _. ⌜ now (pool .exit) ≡ written w pages (now (pool .entry)) ⌝ }
 {
+    clear_peaks(pool, w);
     record_header::put_header(pool, fresh_header(w, pages));
     clear_classes(pool, w);
     clear_pages(pool, w, pages);

@@ -3,14 +3,16 @@
 use mathlib.Core.Path.{_≡_}
 use mathlib.Core.List.{List}
 use Prim.Native.Nat.{ℕ, zero, suc, _-_, _<_}
+use lib.Dec.{ltb}
+use Rattle.base.specs.Tests.{pick}
 use Rattle.base.specs.Functions.{upd}
 use Rattle.words.specs.Word.{setWord}
-use Rattle.records.specs.Layout.{countsPlace, tallyPlace, mapPlace, linksPlace}
+use Rattle.records.specs.Layout.{countsPlace, tallyPlace, peakPlace, mapPlace, linksPlace}
 use Rattle.records.specs.declared.Header.{Header}
 use Rattle.records.specs.declared.ClassRecord.{ClassRecord}
 use Rattle.records.specs.declared.Links.{Links}
 use Rattle.records.specs.Header.{packHeader}
-use Rattle.records.specs.Class.{packCounts, packTally}
+use Rattle.records.specs.Class.{packCounts, packTally, packPeak}
 use Rattle.records.specs.Page.{packLinks}
 
 -- of the header: free pages and first free run; of class c its record; of page p its map field and its links
@@ -28,7 +30,7 @@ setAllLinks I f = record { freePages = I .freePages; firstRun = I .firstRun; cla
 abbrev pub setLinks : (I : Image) (p : ℕ) (l : Links) → Image
 setLinks I p l = setAllLinks I (upd (I .links) p l)
 
--- edition 1 has class records of 2 words, smallest shift 3, page shift 12
+-- edition w - 1 has class records of w words; smallest shift 3, page shift 12
 abbrev pub headerOf : (w P free first : ℕ) → Header
 headerOf w P free first =
     record {
@@ -53,6 +55,10 @@ paint w P I s =
     (writeAt (tallyPlace w) 9 (λ c. packTally (I .class c))
     (writeAt (countsPlace w) 9 (λ c. packCounts (I .class c))
     (setWord s 0 (packHeader (headerOf w P (I .freePages) (I .firstRun)))))))
+
+-- s with the peaks f, where class records have a third word: they lie beneath the image, which does not have them
+unfoldable pub withPeaks : (w : ℕ) (f : (ℕ → ℕ)) (s : List ℕ) → List ℕ
+withPeaks w f s = pick (ltb 2 w) (writeAt (peakPlace w) 9 (λ c. packPeak (f c)) s) s
 
 -- two images show the same for P pages
 pub record Same (P : ℕ) (I J : Image) : Type 0 where

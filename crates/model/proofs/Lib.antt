@@ -18,6 +18,7 @@ pub mod Fresh  -- a fresh pool is well formed and has no live block
 pub mod LiveSets  -- the live set of a state
 pub mod Shown  -- what a well-formed state shows of pages, free runs and marks is what its live set says
 pub mod Counts  -- the counts that a well-formed state shows, used and total, are those of its live set
+pub mod Used  -- what a class has in use rises by an alloc of its own chunks alone
 pub mod Readings  -- the expected view of a state's live set, read in the words of SPEC 6.3
 pub mod Ruling  -- whether a call is granted, and by which number it is refused, is what the state shows
 pub mod Placing  -- where the live blocks of a well-formed state lie, and that a call leaves alone the blocks that stay live

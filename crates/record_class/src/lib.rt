@@ -1,9 +1,9 @@
-// Class records: two words each, packed by multiplication and unpacked by division and remainder.
-// `w` is the number of words of a class record: 2 in edition 1.
+// Class records: two words each, packed by multiplication and unpacked by division and remainder, and a third for the peak.
+// `w` is the number of words of a class record: 2 in edition 1, 3 in edition 2.
 use records::ClassRecord;
 use records::PageNumber;
 ghost use mathlib.Core.Path.{_≡_};
-ghost use Rattle.records.specs.Class.{packCounts, packTally, unpackClass, classAt, withClass};
+ghost use Rattle.records.specs.Class.{packCounts, packTally, unpackClass, classAt, withClass, packPeak, peakAt, peakSpare, withPeak};
 
 pub fn pack_counts(r: ClassRecord) -> u64
     ensures { λ v. ⌜ v ≡ packCounts r ⌝ }
@@ -40,9 +40,42 @@ pub fn get_class(pool: &[u8], w: u8, c: u8) -> ClassRecord
     )
 }
 
+pub fn get_used(pool: &[u8], w: u8, c: u8) -> u32
+    ensures { λ r. ⌜ r ≡ classAt w (now (pool .entry)) c .used ⌝ }
+{
+    get_class(pool, w, c).used
+}
+
 pub fn put_class(pool: &mut [u8], w: u8, c: u8, r: ClassRecord)
     ensures { λ _. ⌜ now (pool .exit) ≡ withClass w (now (pool .entry)) c r ⌝ }
 {
     cells::put_word(pool, records::place(1, w, c as u16), pack_counts(r));
     cells::put_word(pool, records::place(2, w, c as u16), pack_tally(r));
+}
+
+// ---- the third word, where there is one
+
+fn pack_peak(n: u32) -> u64
+    ensures { λ v. ⌜ v ≡ packPeak n ⌝ }
+{
+    (n % 16777216) as u64 * 1099511627776
+}
+
+pub fn get_peak(pool: &[u8], w: u8, c: u8) -> u32
+    ensures { λ r. ⌜ r ≡ peakAt w (now (pool .entry)) c ⌝ }
+{
+    (cells::get_word(pool, records::place(3, w, c as u16)) / 1099511627776 % 16777216) as u32
+}
+
+// The bits after the peak, which are to be 0.
+pub fn peak_spare(pool: &[u8], w: u8, c: u8) -> u64
+    ensures { λ r. ⌜ r ≡ peakSpare w (now (pool .entry)) c ⌝ }
+{
+    cells::get_word(pool, records::place(3, w, c as u16)) % 1099511627776
+}
+
+pub fn put_peak(pool: &mut [u8], w: u8, c: u8, n: u32)
+    ensures { λ _. ⌜ now (pool .exit) ≡ withPeak w (now (pool .entry)) c n ⌝ }
+{
+    cells::put_word(pool, records::place(3, w, c as u16), pack_peak(n));
 }

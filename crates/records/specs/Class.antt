@@ -1,8 +1,8 @@
--- A class record in two words.
+-- A class record: two words, and where it has a third the peak in it.
 use Prim.Native.Nat.{ℕ, _+_, _*_, _/_, _%_}
 use mathlib.Core.List.{List}
 use Rattle.words.specs.Word.{word, setWord}
-use Rattle.records.specs.Layout.{noPage, countsPlace, tallyPlace}
+use Rattle.records.specs.Layout.{noPage, countsPlace, tallyPlace, peakPlace}
 use Rattle.records.specs.declared.ClassRecord.{ClassRecord}
 
 -- ---- by value
@@ -37,3 +37,19 @@ classAt w s c = unpackClass (word s (countsPlace w c)) (word s (tallyPlace w c))
 
 unfoldable pub withClass : (w : ℕ) (s : List ℕ) (c : ℕ) (r : ClassRecord) → List ℕ
 withClass w s c r = setWord (setWord s (countsPlace w c) (packCounts r)) (tallyPlace w c) (packTally r)
+
+-- ---- its third word: peak 24 bits, 40 zero bits
+
+unfoldable pub packPeak : ℕ → ℕ
+packPeak n = n % 16777216 * 1099511627776
+
+-- the peak of class c
+unfoldable pub peakAt : (w : ℕ) (s : List ℕ) (c : ℕ) → ℕ
+peakAt w s c = word s (peakPlace w c) / 1099511627776 % 16777216
+
+-- the bits that are to be 0
+unfoldable pub peakSpare : (w : ℕ) (s : List ℕ) (c : ℕ) → ℕ
+peakSpare w s c = word s (peakPlace w c) % 1099511627776
+
+unfoldable pub withPeak : (w : ℕ) (s : List ℕ) (c n : ℕ) → List ℕ
+withPeak w s c n = setWord s (peakPlace w c) (packPeak n)

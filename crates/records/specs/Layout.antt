@@ -1,5 +1,5 @@
 -- Where the records of a pool lie: header, nine class records, page records, pages, tail.
--- w is the number of 64-bit words of a class record, 2 in edition 1.
+-- w is the number of 64-bit words of a class record: 2 in edition 1, 3 in edition 2.
 use Prim.Native.Nat.{ℕ, _+_, _-_, _*_, _/_}
 
 -- 65535 means no page
@@ -13,6 +13,10 @@ countsPlace w c = 1 + w * c
 
 abbrev pub tallyPlace : (w c : ℕ) → ℕ
 tallyPlace w c = 2 + w * c
+
+-- the third word, where a class record has one
+abbrev pub peakPlace : (w c : ℕ) → ℕ
+peakPlace w c = 3 + w * c
 
 abbrev pub mapPlace : (w p : ℕ) → ℕ
 mapPlace w p = 1 + 9 * w + 2 * p

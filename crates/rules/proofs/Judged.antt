@@ -8,12 +8,13 @@ use native.Mathlib.Omega.{arith}
 use Rattle.base.specs.Tests.{pick}
 use Rattle.base.proofs.Cases.{clash, decided, eq?, lt?}
 use Rattle.records.specs.Layout.{noPage}
-use Rattle.rules.specs.Rules.{rule2, rule3, rule4, rule5, rule6}
-use Rattle.rules.specs.Bytes.{pagesIn, fieldsOf, rule1, brokenRule}
+use Rattle.rules.specs.Rules.{rule2, rule3, rule4, rule5}
+use Rattle.rules.specs.Bytes.{pagesIn, fieldsOf, rule1, countsAndPeaks, brokenRule}
 use Rattle.rules.specs.Judged.{Rule, Judged, Judge}
 use Rattle.rules.proofs.Rule1.{rule1-says, rule1-iff}
 use Rattle.rules.proofs.Rule2.{rule2-iff}
-use Rattle.rules.proofs.Rules.{rule3-iff, rule4-iff, rule5-iff, rule6-iff}
+use Rattle.rules.proofs.Rules.{rule3-iff, rule4-iff, rule5-iff}
+use Rattle.rules.proofs.Peaks.{counts-and-peaks-iff}
 
 -- ---- the first test that fails
 
@@ -63,7 +64,7 @@ module _ (w : ℕ) (s : List ℕ) where
   test (suc (suc (suc zero))) = rule3 (fieldsOf w s) (pagesIn w s)
   test (suc (suc (suc (suc zero)))) = rule4 (fieldsOf w s) (pagesIn w s)
   test (suc (suc (suc (suc (suc zero))))) = rule5 (fieldsOf w s) (pagesIn w s)
-  test (suc (suc (suc (suc (suc (suc zero)))))) = rule6 (fieldsOf w s) (pagesIn w s)
+  test (suc (suc (suc (suc (suc (suc zero)))))) = countsAndPeaks w s
   test (suc (suc (suc (suc (suc (suc (suc k))))))) = true
 
   -- rule 1 bounds the pages that the other rules speak of
@@ -75,7 +76,7 @@ module _ (w : ℕ) (s : List ℕ) where
   tested (suc (suc (suc zero))) one = rule3-iff (fieldsOf w s) (pagesIn w s) (omega (arith, rule1-says w s (one (omega arith)) .few))
   tested (suc (suc (suc (suc zero)))) one = rule4-iff (fieldsOf w s) (pagesIn w s) (omega (arith, rule1-says w s (one (omega arith)) .few))
   tested (suc (suc (suc (suc (suc zero))))) one = rule5-iff (fieldsOf w s) (pagesIn w s)
-  tested (suc (suc (suc (suc (suc (suc zero)))))) one = rule6-iff (fieldsOf w s) (pagesIn w s)
+  tested (suc (suc (suc (suc (suc (suc zero)))))) one = counts-and-peaks-iff w s
   tested (suc (suc (suc (suc (suc (suc (suc k))))))) one = (λ _. tt, λ _. refl)
 
   first-is : brokenRule w s ≡ firstOff test 6 1

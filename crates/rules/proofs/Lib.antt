@@ -4,6 +4,7 @@ pub mod Agree  -- the rules and the state that is read depend only on the fields
 pub mod Rule1  -- rule 1 as a test and in plain form
 pub mod Rule2  -- rule 2 as a test and in plain form
 pub mod Rules  -- rules 3 to 6 as tests and in plain form
+pub mod Peaks  -- rule 6 of the peaks, as a test and in plain form
 pub mod Well  -- fields that pass rules 2 to 5 show a well-formed state
 pub mod Runs  -- the free runs of a well-formed state by their first page and by their end
 pub mod Shown  -- the fields of a well-formed state

@@ -1,14 +1,14 @@
 -- The fields in the bytes of a pool; rule 1; the first rule that does not hold; the state that the bytes show.
 use Prim.Native.Nat.{ℕ, _+_, _-_, _*_, _%_}
-use mathlib.Core.Bool.{Bool, false}
+use mathlib.Core.Bool.{Bool, true, false}
 use mathlib.Core.List.{List, [], _∷_}
 use lib.Dec.{eqb, leb, ltb}
 use lib.ListN.{length}
-use Rattle.base.specs.Tests.{pick, allOf}
+use Rattle.base.specs.Tests.{pick, allOf, allBelow}
 use Rattle.words.specs.Word.{word}
 use Rattle.records.specs.Layout.{mapPlace, linksPlace, pagesFrom, pageCount}
 use Rattle.records.specs.Header.{headerAt}
-use Rattle.records.specs.Class.{classAt}
+use Rattle.records.specs.Class.{classAt, peakAt, peakSpare}
 use Rattle.records.specs.Page.{linksAt}
 use Rattle.model.specs.Classes.{chunks, maxPages}
 use Rattle.model.specs.State.{State}
@@ -53,6 +53,17 @@ rule1 w s = allOf (
     eqb (headerAt s .edition) (w - 1) ∷ eqb (headerAt s .«min_shift») 3 ∷ eqb (headerAt s .«page_shift») 12 ∷
     eqb (headerAt s .pages) (pagesIn w s) ∷ [])
 
+-- rule 6 of a class record's third word: the peak is at least used, and the bits after it are 0
+unfoldable pub peakFits : (w : ℕ) (s : List ℕ) (c : ℕ) → Bool
+peakFits w s c = pick (leb (classAt w s c .used) (peakAt w s c)) (eqb (peakSpare w s c) 0) false
+
+unfoldable pub peaksFit : (w : ℕ) (s : List ℕ) → Bool
+peaksFit w s = pick (ltb 2 w) (allBelow (peakFits w s) 9) true
+
+-- rule 6: the counts, and the peaks where there are any
+unfoldable pub countsAndPeaks : (w : ℕ) (s : List ℕ) → Bool
+countsAndPeaks w s = pick (rule6 (fieldsOf w s) (pagesIn w s)) (peaksFit w s) false
+
 -- the number of the first rule that does not hold; 0 where all do
 unfoldable pub brokenRule : (w : ℕ) (s : List ℕ) → ℕ
 brokenRule w s =
@@ -60,7 +71,7 @@ brokenRule w s =
     (pick (rule2 (fieldsOf w s) (pagesIn w s))
     (pick (rule3 (fieldsOf w s) (pagesIn w s))
     (pick (rule4 (fieldsOf w s) (pagesIn w s))
-    (pick (rule5 (fieldsOf w s) (pagesIn w s)) (pick (rule6 (fieldsOf w s) (pagesIn w s)) 0 6) 5) 4) 3) 2) 1
+    (pick (rule5 (fieldsOf w s) (pagesIn w s)) (pick (countsAndPeaks w s) 0 6) 5) 4) 3) 2) 1
 
 unfoldable pub read : (w : ℕ) (s : List ℕ) → State
 read w s = readFields (fieldsOf w s) (pagesIn w s)

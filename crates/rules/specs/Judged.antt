@@ -5,7 +5,7 @@ use mathlib.Core.Logic.{_↔_}
 use mathlib.Core.List.{List}
 use Prim.Native.Nat.{ℕ, zero, suc, _≤_, _<_}
 use Rattle.rules.specs.Bytes.{pagesIn, fieldsOf, brokenRule}
-use Rattle.rules.specs.Plain.{Rule1, Rule2, Rule3, Rule4, Rule5, Rule6}
+use Rattle.rules.specs.Plain.{Rule1, Rule2, Rule3, Rule4, Rule5, Rule6, Peaks}
 
 -- the six rules by their numbers, of the bytes s; 0 and the numbers past 6 ask nothing
 abbrev pub Rule : ℕ → List ℕ → ℕ → Type 0
@@ -15,7 +15,7 @@ Rule w s (suc (suc zero)) = Rule2 (fieldsOf w s) (pagesIn w s)
 Rule w s (suc (suc (suc zero))) = Rule3 (fieldsOf w s) (pagesIn w s)
 Rule w s (suc (suc (suc (suc zero)))) = Rule4 (fieldsOf w s) (pagesIn w s)
 Rule w s (suc (suc (suc (suc (suc zero))))) = Rule5 (fieldsOf w s) (pagesIn w s)
-Rule w s (suc (suc (suc (suc (suc (suc zero)))))) = Rule6 (fieldsOf w s) (pagesIn w s)
+Rule w s (suc (suc (suc (suc (suc (suc zero)))))) = Rule6 (fieldsOf w s) (pagesIn w s) × Peaks w s
 Rule w s (suc (suc (suc (suc (suc (suc (suc k))))))) = Unit {0}
 
 pub record Judged (w : ℕ) (s : List ℕ) : Type 0 where

@@ -13,6 +13,7 @@ use Rattle.records.specs.Layout.{noPage}
 use Rattle.records.specs.Header.{headerAt}
 use Rattle.model.specs.Classes.{chunks, own, counted, maxPages}
 use Rattle.rules.specs.Fields.{Fields, kind, class, run, next, prev, map, first}
+use Rattle.records.specs.Class.{classAt, peakAt, peakSpare}
 use Rattle.rules.specs.Bytes.{pagesIn}
 
 -- ---- rule 1: the length gives a P from 1 to the largest; the header's constants and P agree
@@ -133,3 +134,8 @@ pub record Rule6 (v : Fields) (n : ℕ) : Type 0 where
   pub free-pages : v .image .freePages ≡ count (λ p. leb (kind v p) 1) n
   pub used : (c : ℕ) → c < 9 → v .image .class c .used ≡ sum (λ p. count (λ i. leb (own c) i && (ofClass v c p && v .mark p i)) (chunks c)) n
   pub total : (c : ℕ) → c < 9 → v .image .class c .total ≡ count (ofClass v c) n * counted c
+
+-- where class records have a third word: each peak is at least used, and the bits after it are 0
+pub record Peaks (w : ℕ) (s : List ℕ) : Type 0 where
+  pub high : 2 < w → (c : ℕ) → c < 9 → classAt w s c .used ≤ peakAt w s c
+  pub spare : 2 < w → (c : ℕ) → c < 9 → peakSpare w s c ≡ 0

@@ -97,7 +97,7 @@ module _ (s : List ℕ) (b : Bytes s) (l : length s ≡ 49496) where
       let high : length s < tooLong 2 = omega (arith, l) in
       let twelve : pagesIn 2 s ≡ pages = rw l in
       record {
-        bytes = rw (L .format-drawn low high) (L .drawn-bytes (fresh (pagesIn 2 s)) (L .fresh-fits low high));
+        bytes = L .format-bytes low high;
         sound = L .format-sound low high;
         state = L .format-read low high ∙ ap fresh twelve;
       }

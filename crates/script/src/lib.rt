@@ -19,14 +19,14 @@ fn serve_take(pool: &mut [u8], size: u32, out: &mut [u8], n: usize) -> usize
     requires { ⌜ n ≤ 1000000 ⌝ }
     ensures { λ r. ⌜ Serves (now (pool .entry)) (now (pool .exit)) (now (out .entry)) (now (out .exit)) n r (some (Alloc size)) ⌝ }
 {
-    script_replies::put_allocated(out, n, pool::alloc(pool, size))
+    script_replies::put_allocated(out, n, calls::alloc(pool, 2, size))
 }
 
 fn serve_give(pool: &mut [u8], at: Offset, out: &mut [u8], n: usize) -> usize
     requires { ⌜ n ≤ 1000000 ⌝ }
     ensures { λ r. ⌜ Serves (now (pool .entry)) (now (pool .exit)) (now (out .entry)) (now (out .exit)) n r (some (Free (at .0))) ⌝ }
 {
-    script_replies::put_freed(out, n, pool::free(pool, at))
+    script_replies::put_freed(out, n, calls::free(pool, 2, at))
 }
 
 fn serve_request(pool: &mut [u8], r: Request, out: &mut [u8], n: usize) -> usize
@@ -64,7 +64,7 @@ fn serve_lines(pool: &mut [u8], input: &[u8], out: &mut [u8], n: usize) -> usize
 fn start(pool: &mut [u8], out: &mut [u8]) -> usize
     ensures { λ r. ⌜ (r ≡ length (formatLine (formatOutcome 2 (length (now (pool .entry)))))) × (now (out .exit) ≡ written (now (out .entry)) 0 (formatLine (formatOutcome 2 (length (now (pool .entry)))))) × (now (pool .exit) ≡ formatted 2 (now (pool .entry))) × (r ≤ 16) ⌝ }
 {
-    script_replies::put_formatted(out, 0, pool::format(pool))
+    script_replies::put_formatted(out, 0, format::format(pool, 2))
 }
 
 fn serve_fresh(pool: &mut [u8], input: &[u8], out: &mut [u8]) -> usize

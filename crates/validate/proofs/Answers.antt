@@ -12,7 +12,7 @@ use Rattle.base.proofs.Tests.{both-true}
 use Rattle.model.specs.Classes.{maxPages}
 use Rattle.model.proofs.Classes.{max-pages}
 use Rattle.branchless.proofs.Loops.{passed}
-use Rattle.rules.specs.Bytes.{pagesIn, fieldsOf, rule1, brokenRule}
+use Rattle.rules.specs.Bytes.{pagesIn, rule1, countsAndPeaks, brokenRule}
 use Rattle.validate.specs.Mirror.{fromRule2, fromRule3}
 
 -- rule 1 bounds the page count
@@ -48,6 +48,6 @@ module _ {A : Type 0} {x : A} (a b : A) (t u : Bool) (e : u ≡ t) where
 
 pub ruleset firsts = (pick-fails, pick-passes, needs)
 
-pub after-header : (w : ℕ) (s : List ℕ) (n r : ℕ) (u : Bool) → n ≡ pagesIn w s → u ≡ rule1 w s → not u ≡ false → r ≡ fromRule2 (fieldsOf w s) n → r ≡ brokenRule w s
-unfolding brokenRule fromRule2 fromRule3
+pub after-header : (w : ℕ) (s : List ℕ) (n r : ℕ) (u : Bool) → n ≡ pagesIn w s → u ≡ rule1 w s → not u ≡ false → r ≡ fromRule2 w s n → r ≡ brokenRule w s
+unfolding brokenRule countsAndPeaks fromRule2 fromRule3
 after-header w s n r u e d f q = pick-passes _ _ (rule1 w s) u d f (rw e at q)

@@ -3,14 +3,14 @@
 ghost use mathlib.Core.Path.{_≡_};
 ghost use Prim.Native.Nat.{_≤_};
 ghost use lib.Dec.{eqb};
-ghost use Rattle.rules.specs.Bytes.{pagesIn, fieldsOf, brokenRule};
+ghost use Rattle.rules.specs.Bytes.{pagesIn, brokenRule};
 ghost use Rattle.validate_totals.specs.Mirror.{Scanned};
 ghost use Rattle.validate.specs.Mirror.{fromRule2, fromRule3};
 
 // The first of rules 3 to 6 that does not hold.
 fn broken_list_or_count(pool: &[u8], w: u8, n: usize, t: &[u64; 11]) -> u8
     requires { ⌜ Scanned w (now pool) n (now t) ⌝ }
-    ensures { λ r. ⌜ r ≡ fromRule3 (fieldsOf w (now (pool .entry))) n ⌝ }
+    ensures { λ r. ⌜ r ≡ fromRule3 w (now (pool .entry)) n ⌝ }
 {
     if !validate_lists::free_list(pool, w, n, t) {
         return 3;
@@ -21,7 +21,7 @@ fn broken_list_or_count(pool: &[u8], w: u8, n: usize, t: &[u64; 11]) -> u8
     if !validate_counts::in_use(pool, w, n, t) {
         return 5;
     }
-    if !validate_counts::counts_fit(pool, w, n, t) {
+    if !validate_counts::counts_and_peaks_fit(pool, w, n, t) {
         return 6;
     }
     0
@@ -30,7 +30,7 @@ fn broken_list_or_count(pool: &[u8], w: u8, n: usize, t: &[u64; 11]) -> u8
 // The first of rules 2 to 6 that does not hold.
 fn broken_page(pool: &[u8], w: u8, n: usize) -> u8
     requires { ⌜ (n ≡ pagesIn w (now pool)) × (n ≤ 4096) ⌝ }
-    ensures { λ r. ⌜ r ≡ fromRule2 (fieldsOf w (now (pool .entry))) n ⌝ }
+    ensures { λ r. ⌜ r ≡ fromRule2 w (now (pool .entry)) n ⌝ }
 {
     let mut t = [0u64; 11];
     if !validate_pages::scan(pool, w, n, &mut t) {

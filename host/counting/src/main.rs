@@ -10,7 +10,7 @@
 use std::process::ExitCode;
 
 use danumrikal::{check, Answer, Offset, Pool, Request, Rule};
-use support::{requests, serve, sum_of};
+use support::{requests, serve, sum_of, ONE};
 use yardstick::{native, packed, Refusal};
 
 const REQUESTS: usize = 10_000;
@@ -63,7 +63,7 @@ fn proved_batch(pool: &mut [u8], requests: &[u64], answers: &mut [u64]) {
 
 /// A pool of packed bytes after these requests.
 fn packed_pool(pages: u16, before: &[u64]) -> Vec<u8> {
-    let mut pool = vec![0; support::length(usize::from(pages))];
+    let mut pool = vec![0; ONE.length(usize::from(pages))];
     packed::format(&mut pool).expect("a length that holds pages");
     let (alloc, free) = (packed::alloc_sound, packed::free_sound);
     serve(before, pool.as_mut_slice(), alloc, free, Refusal::number);

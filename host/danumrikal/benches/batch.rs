@@ -2,7 +2,7 @@
 //! proved call, and what it is measured by.
 
 use danumrikal::{Answer, Pool, Request};
-use support::{best_in_turn, length, requests};
+use support::{best_in_turn, requests, ONE};
 use yardstick::{native, packed};
 
 const REQUESTS: usize = 100_000;
@@ -16,7 +16,7 @@ fn on_bytes<'a, A: Copy, E: std::fmt::Debug>(
     batch: impl Fn(&mut [u8], &mut [A]) -> Result<(), E> + 'a,
     word: impl Fn(A) -> u64 + 'a,
 ) -> impl FnMut() -> u64 + 'a {
-    let mut pool = vec![0; length(pages)];
+    let mut pool = vec![0; ONE.length(pages)];
     move || {
         packed::format(&mut pool).expect("a length that holds pages");
         batch(&mut pool, answers).expect("a sound pool, and room for the answers");

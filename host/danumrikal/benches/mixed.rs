@@ -2,7 +2,7 @@
 //! and what they are measured by.
 
 use danumrikal::{Offset, Pool, Refusal};
-use support::{best_in_turn, length, requests, serve};
+use support::{best_in_turn, requests, serve, ONE};
 use yardstick::{native, packed};
 
 const REQUESTS: usize = 100_000;
@@ -16,7 +16,7 @@ fn on_bytes<'a, E>(
     free: impl Fn(&mut [u8], u32) -> Result<u32, E> + 'a,
     number: impl Fn(E) -> u8 + 'a,
 ) -> impl FnMut() -> u64 + 'a {
-    let mut pool = vec![0; length(usize::from(pages))];
+    let mut pool = vec![0; ONE.length(usize::from(pages))];
     move || {
         packed::format(&mut pool).expect("a length that holds pages");
         serve(list, pool.as_mut_slice(), &alloc, &free, &number)

@@ -2,7 +2,7 @@
 //! class: where the search for a free chunk has the longest way.
 
 use danumrikal::{Offset, Pool};
-use support::{best_in_turn, length};
+use support::{best_in_turn, ONE};
 use yardstick::packed;
 
 const CALLS: usize = 20_000;
@@ -10,7 +10,7 @@ const ROUNDS: usize = 25;
 
 /// A pool of one page, all chunks of which are taken but the last.
 fn nearly_full(size: u32) -> Vec<u8> {
-    let mut pool = vec![0; length(1)];
+    let mut pool = vec![0; ONE.length(1)];
     packed::format(&mut pool).expect("a length that holds a page");
     let mut last = 0;
     while let Ok(offset) = packed::alloc(&mut pool, size) {

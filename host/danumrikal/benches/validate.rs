@@ -3,7 +3,7 @@
 use std::hint::black_box;
 
 use danumrikal::{check, Rule};
-use support::{best_in_turn, length, mixed_size, Rng};
+use support::{best_in_turn, mixed_size, Rng, ONE};
 use yardstick::packed;
 
 const ROUNDS: usize = 25;
@@ -11,7 +11,7 @@ const ROUNDS: usize = 25;
 /// A pool filled with blocks of mixed sizes until one is refused: no page is
 /// free, and runs are of one page.
 fn mixed(pages: usize) -> Vec<u8> {
-    let mut pool = vec![0; length(pages)];
+    let mut pool = vec![0; ONE.length(pages)];
     packed::format(&mut pool).expect("a length that holds pages");
     let mut rng = Rng::new(1);
     for _ in 0..pages * 40 {

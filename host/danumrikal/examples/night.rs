@@ -6,7 +6,7 @@
 //! cargo run --offline --manifest-path host/Cargo.toml -p danumrikal --example night
 //! ```
 
-use danumrikal::{length, Answer, Offset, Pool, Refusal, Request};
+use danumrikal::{convert, Answer, Edition, Offset, Pool, Refusal, Request};
 
 /// Takes a block and keeps a text in it.
 fn keep(pool: &mut Pool, what: &str, text: &str, size: u32) -> Result<Offset, Refusal> {
@@ -31,7 +31,7 @@ fn release(pool: &mut Pool, what: &str, offset: Offset) {
 
 /// At dawn both blocks go, and a dark frame takes their place: three calls under
 /// one validation.
-fn dawn(pool: &mut Pool, pointing: Offset, seconds: Offset) -> Result<(), Refusal> {
+fn dawn(pool: &mut Pool, pointing: Offset, seconds: Offset) -> Result<Offset, Refusal> {
     let requests = [
         Request::free(pointing),
         Request::free(seconds),
@@ -41,7 +41,28 @@ fn dawn(pool: &mut Pool, pointing: Offset, seconds: Offset) -> Result<(), Refusa
     pool.batch(&requests, &mut answers)?;
     tell("pointing block", answers[0].value());
     tell("leap second table", answers[1].value());
-    println!("dark frame: at {}", answers[2].block()?);
+    let frame = answers[2].block()?;
+    println!("dark frame: at {frame}");
+    Ok(frame)
+}
+
+/// The next night wants to know how many star lists there are at once: edition 2
+/// keeps such peaks.
+fn next_night(bytes: &[u8], frame: Offset) -> Result<(), Refusal> {
+    let mut next = vec![0; Edition::Two.length(12)];
+    let pages = convert(bytes, &mut next)?;
+    let mut pool = Pool::new(&mut next);
+    let edition = pool.edition().expect("one of the two");
+    println!("next night: {pages} pages, {edition}");
+    release(&mut pool, "dark frame", frame);
+    let lists = [pool.alloc(30)?, pool.alloc(30)?, pool.alloc(30)?];
+    release(&mut pool, "star list", lists[0]);
+    let peaks = pool.peaks().expect("a pool of edition 2");
+    println!("star lists at once: {}", peaks[2]); // chunks of 32 bytes
+    match pool.check() {
+        Ok(()) => println!("records: sound"),
+        Err(rule) => println!("records: broken rule {rule}"),
+    }
     Ok(())
 }
 
@@ -51,9 +72,9 @@ fn print(pool: &Pool, what: &str, offset: Offset, size: usize) {
 }
 
 fn main() -> Result<(), Refusal> {
-    let mut bytes = vec![0; length(12)];
+    let mut bytes = vec![0; Edition::One.length(12)];
     let mut pool = Pool::new(&mut bytes);
-    println!("pages: {}", pool.format()?);
+    println!("pages: {}", pool.format(Edition::One)?);
     let stars = keep(&mut pool, "star list", "Vega, Altair, Deneb", 30)?;
     let angles = "azimuth 181.5, altitude 47.2";
     let pointing = keep(&mut pool, "pointing block", angles, 64)?;
@@ -63,10 +84,6 @@ fn main() -> Result<(), Refusal> {
     release(&mut pool, "star list", stars);
     print(&pool, "pointing block", pointing, angles.len());
     print(&pool, "leap second table", seconds, last.len());
-    dawn(&mut pool, pointing, seconds)?;
-    match pool.check() {
-        Ok(()) => println!("records: sound"),
-        Err(rule) => println!("records: broken rule {rule}"),
-    }
-    Ok(())
+    let frame = dawn(&mut pool, pointing, seconds)?;
+    next_night(&bytes, frame)
 }

@@ -38,11 +38,11 @@ impl Request {
     /// bits, neither an alloc nor a free, is refused when it is served.
     ///
     /// ```
-    /// use danumrikal::{length, Answer, Pool, Refusal, Request};
+    /// use danumrikal::{Answer, Edition, Pool, Refusal, Request};
     ///
-    /// let mut bytes = vec![0; length(1)];
+    /// let mut bytes = vec![0; Edition::One.length(1)];
     /// let mut pool = Pool::new(&mut bytes);
-    /// pool.format()?;
+    /// pool.format(Edition::One)?;
     /// let stray = Request::from_word(1 << 40);
     /// assert_eq!(stray.to_string(), "stray 0x10000000000");
     /// let mut answers = [Answer::default()];

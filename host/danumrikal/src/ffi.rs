@@ -4,7 +4,7 @@
 use crate::{Answer, Request};
 
 extern "C" {
-    fn dnk_format(pool: *mut u8, len: usize) -> u64;
+    fn dnk_format(pool: *mut u8, len: usize, edition: u8) -> u64;
     fn dnk_validate(pool: *const u8, len: usize) -> u64;
     fn dnk_alloc(pool: *mut u8, len: usize, size: u32) -> u64;
     fn dnk_free(pool: *mut u8, len: usize, offset: u32) -> u64;
@@ -16,11 +16,13 @@ extern "C" {
         answers: *mut Answer,
         answer_count: usize,
     ) -> u64;
+    fn dnk_convert(source: *const u8, source_len: usize, target: *mut u8, target_len: usize)
+        -> u64;
 }
 
-pub fn format(pool: &mut [u8]) -> u64 {
+pub fn format(pool: &mut [u8], edition: u8) -> u64 {
     // SAFETY: pointer and length are those of a slice that is lent for the call.
-    unsafe { dnk_format(pool.as_mut_ptr(), pool.len()) }
+    unsafe { dnk_format(pool.as_mut_ptr(), pool.len(), edition) }
 }
 
 pub fn validate(pool: &[u8]) -> u64 {
@@ -50,6 +52,19 @@ pub fn batch(pool: &mut [u8], requests: &[Request], answers: &mut [Answer]) -> u
             requests.len(),
             answers.as_mut_ptr(),
             answers.len(),
+        )
+    }
+}
+
+pub fn convert(source: &[u8], target: &mut [u8]) -> u64 {
+    // SAFETY: pointers and lengths are those of slices that are lent for the
+    // call and share no byte.
+    unsafe {
+        dnk_convert(
+            source.as_ptr(),
+            source.len(),
+            target.as_mut_ptr(),
+            target.len(),
         )
     }
 }

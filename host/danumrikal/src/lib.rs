@@ -7,11 +7,11 @@
 //! bytes, which is tested and not proved. `docs/SPEC.md` has all rules.
 //!
 //! ```
-//! use danumrikal::{length, Pool, Refusal};
+//! use danumrikal::{Edition, Pool, Refusal};
 //!
-//! let mut bytes = vec![0; length(12)];
+//! let mut bytes = vec![0; Edition::One.length(12)];
 //! let mut pool = Pool::new(&mut bytes);
-//! assert_eq!(pool.format(), Ok(12));
+//! assert_eq!(pool.format(Edition::One), Ok(12));
 //! let stars = pool.alloc(30)?;
 //! let text = pool.block_mut(stars, 30).expect("inside the pages");
 //! text.copy_from_slice(b"Vega, Altair, Deneb, Arcturus.");
@@ -20,6 +20,10 @@
 //! assert_eq!(pool.check(), Ok(()));
 //! # Ok::<(), Refusal>(())
 //! ```
+//!
+//! Records have two editions, which differ in what they keep of each class:
+//! [`Edition`]. Every call serves both, and [`convert`] leads from the first to
+//! the second.
 //!
 //! What the host program keeps: the memory and its mapping, a lock where
 //! processes share a pool, so that nobody else writes any of it while its bytes
@@ -31,13 +35,17 @@
 #![deny(missing_docs)]
 
 mod batch;
+mod convert;
+mod edition;
 mod ffi;
 mod pool;
 mod refusal;
 mod rule;
 
 pub use batch::{Answer, Request};
-pub use pool::{check, length, Offset, Pool, MOST_PAGES, PAGE};
+pub use convert::convert;
+pub use edition::Edition;
+pub use pool::{check, peaks, Offset, Pool, CLASSES, MOST_PAGES, PAGE};
 pub use refusal::Refusal;
 pub use rule::Rule;
 

@@ -1,26 +1,14 @@
 use std::fmt;
 use std::ops::Range;
 
-use crate::{ffi, Answer, Refusal, Request, Rule};
+use crate::{ffi, Answer, Edition, Refusal, Request, Rule};
 
 /// Bytes of a page.
 pub const PAGE: usize = 4_096;
 /// Pages of the largest pool.
 pub const MOST_PAGES: usize = 4_096;
-
-const RECORD: usize = 16;
-/// Header and class records.
-const HEAD: usize = 152;
-
-/// The length of a slice that holds exactly `pages` pages. In a longer one, too
-/// short for a page more, no call touches the tail.
-///
-/// ```
-/// assert_eq!(danumrikal::length(12), 49_496);
-/// ```
-pub const fn length(pages: usize) -> usize {
-    HEAD + (RECORD + PAGE) * pages
-}
+/// How many chunk sizes there are: 8, 16, 32 and so on up to 2,048 bytes.
+pub const CLASSES: usize = 9;
 
 /// Where a block begins, in bytes from the first page. It holds in every
 /// process, wherever the pool is mapped there. Any number may be tried: a free
@@ -40,7 +28,7 @@ impl fmt::Display for Offset {
     }
 }
 
-fn answer(word: u64) -> Result<u32, Refusal> {
+pub(crate) fn answer(word: u64) -> Result<u32, Refusal> {
     Answer::from_word(word).value()
 }
 
@@ -52,9 +40,9 @@ fn answer(word: u64) -> Result<u32, Refusal> {
 /// The first rule that they break.
 ///
 /// ```
-/// use danumrikal::{check, length, Rule};
+/// use danumrikal::{check, Edition, Rule};
 ///
-/// assert_eq!(check(&vec![0; length(12)]), Err(Rule::Header));
+/// assert_eq!(check(&vec![0; Edition::One.length(12)]), Err(Rule::Header));
 /// ```
 pub fn check(bytes: &[u8]) -> Result<(), Rule> {
     match ffi::validate(bytes) {
@@ -63,16 +51,51 @@ pub fn check(bytes: &[u8]) -> Result<(), Rule> {
     }
 }
 
+/// The most chunks of each class that were in use at once since format or
+/// [`convert`](crate::convert), by rising chunk size. `None` where the bytes
+/// keep none: not of edition 2, or too short for its class records.
+///
+/// They are read as they stand: whether they are sound, [`check`] says.
+///
+/// ```
+/// use danumrikal::{peaks, Edition, Pool};
+///
+/// let mut bytes = vec![0; Edition::Two.length(12)];
+/// let mut pool = Pool::new(&mut bytes);
+/// pool.format(Edition::Two)?;
+/// let block = pool.alloc(8)?;
+/// pool.alloc(8)?;
+/// pool.free(block)?;
+/// assert_eq!(peaks(&bytes), Some([2, 0, 0, 0, 0, 0, 0, 0, 0]));
+///
+/// Pool::new(&mut bytes).format(Edition::One)?;
+/// assert_eq!(peaks(&bytes), None);
+/// # Ok::<(), danumrikal::Refusal>(())
+/// ```
+pub fn peaks(bytes: &[u8]) -> Option<[u32; CLASSES]> {
+    let edition = Edition::of(bytes).filter(|edition| *edition == Edition::Two)?;
+    edition.pages(bytes.len())?;
+    let mut peaks = [0; CLASSES];
+    for (class, peak) in peaks.iter_mut().enumerate() {
+        let third = bytes[edition.class_record_at(class)..]
+            .chunks_exact(8)
+            .nth(2)?;
+        // The top 24 bits.
+        *peak = u32::from_be_bytes([0, third[0], third[1], third[2]]);
+    }
+    Some(peaks)
+}
+
 /// A pool in lent bytes, whatever they hold: nothing has to be checked first.
 ///
 /// It is the bytes and nothing else, so it can be made anew whenever they are
 /// lent, as each time a lock is held.
 ///
 /// ```
-/// use danumrikal::{length, Offset, Pool};
+/// use danumrikal::{Edition, Offset, Pool};
 ///
-/// let mut bytes = vec![0; length(12)];
-/// Pool::new(&mut bytes).format()?;
+/// let mut bytes = vec![0; Edition::One.length(12)];
+/// Pool::new(&mut bytes).format(Edition::One)?;
 /// let block = Pool::new(&mut bytes).alloc(30)?;
 /// assert_eq!(block, Offset(32));
 /// Pool::new(&mut bytes).free(block)?;
@@ -95,26 +118,34 @@ impl<'a> Pool<'a> {
         Pool { bytes }
     }
 
-    /// Makes a pool with one free run, and answers its page count, 1 to
-    /// [`MOST_PAGES`]. Bytes of pages and the tail stay as they are.
+    /// Makes a pool of an edition with one free run, and answers its page count,
+    /// 1 to [`MOST_PAGES`]. Bytes of pages and the tail stay as they are.
     ///
     /// # Errors
     ///
     /// By the length alone; nothing changes:
     ///
-    /// - [`Refusal::TooShort`]: below 4,264 bytes, which is `length(1)`
-    /// - [`Refusal::TooLong`]: from 16,847,016 bytes on, which is `length(4_097)`
+    /// - [`Refusal::TooShort`]: shorter than `edition.length(1)`, which is 4,264
+    ///   bytes in edition 1 and 4,336 in edition 2
+    /// - [`Refusal::TooLong`]: from `edition.length(4_097)` on, which is
+    ///   16,847,016 bytes in edition 1 and 16,847,088 in edition 2
     ///
     /// ```
-    /// use danumrikal::{length, Pool, Refusal};
+    /// use danumrikal::{Edition, Pool, Refusal};
     ///
-    /// let format = |len| Pool::new(&mut vec![0; len]).format();
-    /// assert_eq!(format(length(1)), Ok(1));
-    /// assert_eq!(format(length(1) - 1), Err(Refusal::TooShort));
-    /// assert_eq!(format(length(4_097)), Err(Refusal::TooLong));
+    /// let edition = Edition::Two;
+    /// let format = |len| Pool::new(&mut vec![0; len]).format(edition);
+    /// assert_eq!(format(edition.length(1)), Ok(1));
+    /// assert_eq!(format(edition.length(1) - 1), Err(Refusal::TooShort));
+    /// assert_eq!(format(edition.length(4_097)), Err(Refusal::TooLong));
     /// ```
-    pub fn format(&mut self) -> Result<u32, Refusal> {
-        answer(ffi::format(self.bytes))
+    pub fn format(&mut self, edition: Edition) -> Result<u32, Refusal> {
+        answer(ffi::format(self.bytes, edition.number()))
+    }
+
+    /// The edition that the first byte tells, if it is one's.
+    pub fn edition(&self) -> Option<Edition> {
+        Edition::of(self.bytes)
     }
 
     /// Whether the records are sound. [`Pool::alloc`] and [`Pool::free`] see to
@@ -125,11 +156,11 @@ impl<'a> Pool<'a> {
     /// The first rule that they break.
     ///
     /// ```
-    /// use danumrikal::{length, Pool, Rule};
+    /// use danumrikal::{Edition, Pool, Rule};
     ///
-    /// let mut bytes = vec![0; length(1)];
+    /// let mut bytes = vec![0; Edition::One.length(1)];
     /// assert_eq!(Pool::new(&mut bytes).check(), Err(Rule::Header)); // no pool yet
-    /// Pool::new(&mut bytes).format()?;
+    /// Pool::new(&mut bytes).format(Edition::One)?;
     /// assert_eq!(Pool::new(&mut bytes).check(), Ok(()));
     /// bytes[5] = 0; // its count of free pages
     /// assert_eq!(Pool::new(&mut bytes).check(), Err(Rule::Counts));
@@ -137,6 +168,11 @@ impl<'a> Pool<'a> {
     /// ```
     pub fn check(&self) -> Result<(), Rule> {
         check(self.bytes)
+    }
+
+    /// The most chunks of each class that were in use at once: see [`peaks`].
+    pub fn peaks(&self) -> Option<[u32; CLASSES]> {
+        peaks(self.bytes)
     }
 
     /// Takes a block of at least `size` bytes.
@@ -155,12 +191,12 @@ impl<'a> Pool<'a> {
     ///   enough
     ///
     /// ```
-    /// use danumrikal::{length, Offset, Pool, Refusal};
+    /// use danumrikal::{Edition, Offset, Pool, Refusal};
     ///
-    /// let mut bytes = vec![0; length(1)];
+    /// let mut bytes = vec![0; Edition::One.length(1)];
     /// let mut pool = Pool::new(&mut bytes);
     /// assert_eq!(pool.alloc(1), Err(Refusal::NotSound)); // no pool yet
-    /// pool.format()?;
+    /// pool.format(Edition::One)?;
     /// assert_eq!(pool.alloc(2_048), Ok(Offset(0)));
     /// assert_eq!(pool.alloc(1_500), Ok(Offset(2_048)));
     /// assert_eq!(pool.alloc(1), Err(Refusal::NoRoom));
@@ -189,11 +225,11 @@ impl<'a> Pool<'a> {
     /// out again.
     ///
     /// ```
-    /// use danumrikal::{length, Offset, Pool, Refusal, PAGE};
+    /// use danumrikal::{Edition, Offset, Pool, Refusal, PAGE};
     ///
-    /// let mut bytes = vec![0; length(1)];
+    /// let mut bytes = vec![0; Edition::One.length(1)];
     /// let mut pool = Pool::new(&mut bytes);
-    /// pool.format()?;
+    /// pool.format(Edition::One)?;
     /// let block = pool.alloc(64)?;
     /// assert_eq!(pool.free(Offset(block.0 + 1)), Err(Refusal::NotAStart));
     /// assert_eq!(pool.free(block), Ok(64));
@@ -219,11 +255,11 @@ impl<'a> Pool<'a> {
     /// - [`Refusal::NotSound`]: the records break a rule, also for no requests
     ///
     /// ```
-    /// use danumrikal::{length, Answer, Offset, Pool, Refusal, Request};
+    /// use danumrikal::{Answer, Edition, Offset, Pool, Refusal, Request};
     ///
-    /// let mut bytes = vec![0; length(12)];
+    /// let mut bytes = vec![0; Edition::One.length(12)];
     /// let mut pool = Pool::new(&mut bytes);
-    /// pool.format()?;
+    /// pool.format(Edition::One)?;
     /// let requests = [Request::alloc(30), Request::alloc(64), Request::free(Offset(7))];
     /// let mut answers = [Answer::default(); 3];
     /// pool.batch(&requests, &mut answers)?;
@@ -241,7 +277,7 @@ impl<'a> Pool<'a> {
 
     /// The bytes of a block, for an offset and a size that [`Pool::alloc`]
     /// granted: `size` bytes from `offset` on, whatever lies there. `None` where
-    /// they reach past the pages.
+    /// they reach past the pages, or no edition tells where these lie.
     ///
     /// The first has an address that is a multiple of 8 where that of the
     /// pool's bytes is, and in general of no more.
@@ -254,11 +290,11 @@ impl<'a> Pool<'a> {
     /// that was not granted may lead to another block's bytes or to a map.
     ///
     /// ```
-    /// use danumrikal::{length, Offset, Pool};
+    /// use danumrikal::{Edition, Offset, Pool};
     ///
-    /// let mut bytes = vec![0; length(1)];
+    /// let mut bytes = vec![0; Edition::One.length(1)];
     /// let mut pool = Pool::new(&mut bytes);
-    /// pool.format()?;
+    /// pool.format(Edition::One)?;
     /// let block = pool.alloc(5)?;
     /// pool.block_mut(block, 5).expect("inside the pages").copy_from_slice(b"Vega.");
     /// assert_eq!(pool.block(block, 5), Some(&b"Vega."[..]));
@@ -272,8 +308,7 @@ impl<'a> Pool<'a> {
 
     /// Where these bytes lie in the slice.
     fn range(&self, offset: Offset, size: u32) -> Option<Range<usize>> {
-        let pages = self.bytes.len().checked_sub(HEAD)? / (RECORD + PAGE);
-        let first = HEAD + RECORD * pages;
+        let (pages, first) = self.edition()?.pages(self.bytes.len())?;
         let start = first.checked_add(offset.0 as usize)?;
         let end = start.checked_add(size as usize)?;
         (end <= first + PAGE * pages).then_some(start..end)

@@ -3,21 +3,21 @@ use std::fmt;
 /// Why a call was refused. More may come with further calls.
 ///
 /// ```
-/// use danumrikal::{Pool, Refusal};
+/// use danumrikal::{Edition, Pool, Refusal};
 ///
-/// let refused = Pool::new(&mut [0; 4_263]).format().unwrap_err();
+/// let refused = Pool::new(&mut [0; 4_263]).format(Edition::One).unwrap_err();
 /// assert_eq!(refused, Refusal::TooShort);
 /// assert_eq!(refused.to_string(), "too short (1)");
 /// ```
 #[non_exhaustive]
 #[derive(Clone, Copy, Debug, PartialEq, Eq, Hash)]
 pub enum Refusal {
-    /// Format: the slice is shorter than 4,264 bytes and holds no page.
+    /// Format: the slice holds no page.
     TooShort = 1,
-    /// Format: the slice has 16,847,016 bytes or more and holds more than
-    /// 4,096 pages.
+    /// Format: the slice holds more than 4,096 pages.
     TooLong = 2,
-    /// Alloc, free or batch: the records break a rule.
+    /// Alloc, free or batch: the records break a rule. Convert: the source is no
+    /// sound pool of edition 1.
     NotSound = 3,
     /// Alloc: no free chunk and no free page, or no run long enough.
     NoRoom = 4,
@@ -33,9 +33,11 @@ pub enum Refusal {
     NothingAsked = 10,
     /// Batch: fewer answers than requests.
     AnswersTooShort = 11,
+    /// Convert: the target does not hold as many pages.
+    WrongLength = 12,
 }
 
-const ALL: [Refusal; 10] = [
+const ALL: [Refusal; 11] = [
     Refusal::TooShort,
     Refusal::TooLong,
     Refusal::NotSound,
@@ -46,6 +48,7 @@ const ALL: [Refusal; 10] = [
     Refusal::Unreadable,
     Refusal::NothingAsked,
     Refusal::AnswersTooShort,
+    Refusal::WrongLength,
 ];
 
 impl Refusal {
@@ -80,6 +83,7 @@ impl Refusal {
             Refusal::Unreadable => "unreadable",
             Refusal::NothingAsked => "nothing asked",
             Refusal::AnswersTooShort => "answers too short",
+            Refusal::WrongLength => "wrong length",
         }
     }
 }

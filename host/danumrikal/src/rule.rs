@@ -12,7 +12,7 @@ use std::fmt;
 #[non_exhaustive]
 #[derive(Clone, Copy, Debug, PartialEq, Eq, Hash)]
 pub enum Rule {
-    /// The length is a pool's, and the header says so.
+    /// The first byte is an edition, the length a pool's, and the header says so.
     Header = 1,
     /// Runs and class pages cover the pages, each recorded as such.
     Pages = 2,
@@ -24,7 +24,7 @@ pub enum Rule {
     /// Each class page has a chunk in use.
     InUse = 5,
     /// Free pages, and the used and total chunks of each class, are what can be
-    /// counted.
+    /// counted; in edition 2 no peak is below its used.
     Counts = 6,
 }
 

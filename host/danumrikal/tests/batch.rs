@@ -1,13 +1,17 @@
 //! Batches: the proved call against the second program, against single calls,
-//! and against itself cut in two. Outcome, every byte of the pool and every
-//! place for an answer are compared, whatever the pool and the words hold.
+//! and against itself cut in two, in both editions. Outcome, every byte of the
+//! pool and every place for an answer are compared, whatever the pool and the
+//! words hold. On sound pools of edition 2 the peaks are the largest used after
+//! any request.
 //!
 //! The seeds are fixed. `DANUMRIKAL_TIMES=10` plays ten times as many batches.
 
 use danumrikal::{Answer, Offset, Pool, Refusal, Request};
 use reference::batch::{answer_word, read_request};
-use reference::{alloc_sound, batch, broken_rule, free_sound, Call};
-use support::{length, offset, page_at, Habit, Rng, PER_PAGE};
+use reference::{
+    alloc_sound, batch, broken_rule, free_sound, live_blocks, peaks, Call, LiveSet, Peaks,
+};
+use support::{offset, Edition, Habit, Rng, EDITIONS, ONE, PER_PAGE, TWO};
 
 /// A pool, request words, and what stands in the places for answers.
 #[derive(Clone, Debug, PartialEq, Eq)]
@@ -92,24 +96,24 @@ fn second(pool: &mut [u8], requests: &[u64], answers: &mut [u64]) -> u64 {
 struct Cases {
     rng: Rng,
     pool: Vec<u8>,
+    edition: Edition,
     pages: usize,
     habit: Habit,
     live: Vec<u32>,
 }
 
 impl Cases {
-    fn new(seed: u64, pages: usize) -> Cases {
+    fn new(seed: u64, edition: Edition, pages: usize) -> Cases {
         let mut rng = Rng::new(seed);
         let tail = rng.below(PER_PAGE as u64) as usize;
-        let mut pool = rng.bytes(length(pages) + tail);
-        Pool::new(&mut pool)
-            .format()
-            .expect("a length that holds pages");
+        let mut pool = rng.bytes(edition.length(pages) + tail);
+        reference::format(&mut pool, edition.number).expect("a length that holds pages");
         let habit = Habit::any(&mut rng);
         let live = Vec::new();
         Cases {
             rng,
             pool,
+            edition,
             pages,
             habit,
             live,
@@ -131,7 +135,8 @@ impl Cases {
             answers: (0..places).map(|_| self.rng.word()).collect(),
         };
         if self.rng.once_in(5) {
-            let at = self.rng.below(page_at(self.pages, 0) as u64) as usize;
+            let records = self.edition.page_at(self.pages, 0);
+            let at = self.rng.below(records as u64) as usize;
             case.pool[at] ^= 1 << self.rng.below(8);
         }
         self.pool = pool;
@@ -183,11 +188,37 @@ struct Seen {
     nothing: usize,
 }
 
-fn play(seed: u64, pages: usize, batches: usize, seen: &mut Seen) {
-    let mut cases = Cases::new(seed, pages);
+/// The peaks after a batch on a sound pool, from its live blocks and what was
+/// answered to the requests.
+fn peaks_after(pages: usize, case: &Case, answers: &[u64]) -> Option<[u32; 9]> {
+    let mut live = LiveSet::new(pages as u32);
+    for (offset, block) in live_blocks(&case.pool)? {
+        let entered = live.record_alloc(block.bytes() as u32, Ok(offset));
+        entered.expect("blocks of a sound pool are apart");
+    }
+    let mut history = Peaks::new(peaks(&case.pool)?);
+    for (&request, &answer) in case.requests.iter().zip(answers) {
+        let granted = || Ok(answer as u32);
+        let entered = match read_request(request) {
+            _ if answer >> 56 != 0 => Ok(()),
+            Some(Call::Alloc(size)) => live.record_alloc(size, granted()),
+            Some(Call::Free(offset)) => live.record_free(offset, granted()),
+            None => Ok(()),
+        };
+        entered.expect("an answer that the live blocks allow");
+        history.note(&live);
+    }
+    Some(history.by_class())
+}
+
+fn play(seed: u64, edition: Edition, pages: usize, batches: usize, seen: &mut Seen) {
+    let mut cases = Cases::new(seed, edition, pages);
     for number in 0..batches {
         let case = cases.next();
-        let place = format!("seed {seed}, {pages} pages, batch {number}");
+        let place = format!(
+            "seed {seed}, edition {}, {pages} pages, batch {number}",
+            edition.number
+        );
         let (outcome, end) = case.served(proved);
         let print = || -> String {
             let words = case.requests.iter().copied().map(Request::from_word);
@@ -202,6 +233,9 @@ fn play(seed: u64, pages: usize, batches: usize, seen: &mut Seen) {
                 let alike = case.served_in_two(proved, cut) == (outcome, end.clone());
                 assert!(alike, "{place}: cut in two at {cut}{}", print());
                 assert_eq!(broken_rule(&end.pool), 0, "{place}{}", print());
+                let due = peaks_after(pages, &case, &end.answers);
+                assert_eq!(due.is_some(), edition == TWO);
+                assert_eq!(peaks(&end.pool), due, "{place}: peaks{}", print());
                 seen.done += 1;
                 seen.requests += case.requests.len();
                 let answered = &end.answers[..case.requests.len()];
@@ -234,12 +268,14 @@ fn batches_in_small_pools() {
     let mut seen = Seen::default();
     for seed in 0..60 * times() {
         for pages in [1, 2, 3, 12] {
-            play(seed, pages, 25, &mut seen);
+            for edition in EDITIONS {
+                play(seed, edition, pages, 25, &mut seen);
+            }
         }
     }
     println!("{seen:?}");
-    assert!(seen.done > 3_000 && seen.requests > 90_000 && seen.stray > 9_000);
-    assert!(seen.too_short > 500 && seen.unsound > 500 && seen.nothing > 300);
+    assert!(seen.done > 6_000 && seen.requests > 180_000 && seen.stray > 18_000);
+    assert!(seen.too_short > 1_000 && seen.unsound > 1_000 && seen.nothing > 600);
 }
 
 #[test]
@@ -247,31 +283,35 @@ fn batches_in_large_pools() {
     let mut seen = Seen::default();
     for seed in 0..4 * times() {
         for pages in [64, 256] {
-            play(seed, pages, 25, &mut seen);
+            for edition in EDITIONS {
+                play(seed, edition, pages, 25, &mut seen);
+            }
         }
     }
     println!("{seen:?}");
-    assert!(seen.done > 100 && seen.too_short > 10 && seen.unsound > 10);
+    assert!(seen.done > 200 && seen.too_short > 20 && seen.unsound > 20);
 }
 
 #[test]
 fn an_empty_batch_is_refused_on_an_unsound_pool() {
-    let mut pool = vec![0; length(1)];
-    assert_eq!(
-        Pool::new(&mut pool).batch(&[], &mut []),
-        Err(Refusal::NotSound)
-    );
-    Pool::new(&mut pool)
-        .format()
-        .expect("a length that holds pages");
-    assert_eq!(Pool::new(&mut pool).batch(&[], &mut []), Ok(()));
+    for edition in EDITIONS {
+        let mut pool = vec![0; edition.length(1)];
+        let refused = Pool::new(&mut pool).batch(&[], &mut []);
+        assert_eq!(refused, Err(Refusal::NotSound));
+        reference::format(&mut pool, edition.number).expect("a length that holds a page");
+        assert_eq!(Pool::new(&mut pool).batch(&[], &mut []), Ok(()));
+        pool[0] = 3;
+        let refused = Pool::new(&mut pool).batch(&[], &mut []);
+        assert_eq!(refused, Err(Refusal::NotSound));
+    }
 }
 
 #[test]
 fn nothing_is_refused_and_the_next_is_served() {
-    let mut pool = vec![0; length(1)];
+    let mut pool = vec![0; ONE.length(1)];
     let mut pool = Pool::new(&mut pool);
-    pool.format().expect("a length that holds pages");
+    pool.format(danumrikal::Edition::One)
+        .expect("a length that holds a page");
     let requests = [8, 0, 8, 0].map(Request::alloc);
     let mut answers = [Answer::default(); 4];
     assert_eq!(pool.batch(&requests, &mut answers), Ok(()));
@@ -287,7 +327,7 @@ fn too_few_places_come_before_an_unsound_pool() {
 }
 
 /// Programs with one fault each: the second program's batch, done wrong.
-const DOUBLES: [(&str, Program); 8] = [
+const DOUBLES: [(&str, Program); 10] = [
     ("tries 3 before 11", |pool, requests, answers| {
         if broken_rule(pool) != 0 {
             return 3 << 56;
@@ -349,6 +389,26 @@ const DOUBLES: [(&str, Program); 8] = [
         }
         outcome
     }),
+    ("counts peaks once at the end", |pool, requests, answers| {
+        let third = |class: usize| TWO.class_record_at(class) + 16;
+        let old = pool.to_vec();
+        let outcome = second(pool, requests, answers);
+        if outcome == 0 && pool[0] == 2 {
+            for class in 0..9 {
+                let used = third(class) - 14..third(class) - 11;
+                let peak = third(class)..third(class) + 3;
+                let most = pool[used].to_vec().max(old[peak.clone()].to_vec());
+                pool[peak].copy_from_slice(&most);
+            }
+        }
+        outcome
+    }),
+    ("serves edition 1 alone", |pool, requests, answers| {
+        if answers.len() >= requests.len() && pool.first() == Some(&2) {
+            return 3 << 56;
+        }
+        second(pool, requests, answers)
+    }),
     (
         "serves what it has places for",
         |pool, requests, answers| {
@@ -362,7 +422,7 @@ const DOUBLES: [(&str, Program); 8] = [
 fn every_double_is_caught() {
     for (name, double) in DOUBLES {
         let mut cases = (0..100).flat_map(|seed| {
-            let mut cases = Cases::new(seed, 3);
+            let mut cases = Cases::new(seed, EDITIONS[seed as usize % 2], 3);
             (0..5).map(move |_| cases.next())
         });
         let caught = cases.any(|case| differs(double, &case));

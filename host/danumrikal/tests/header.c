@@ -13,7 +13,9 @@
         } \
     } while (0)
 
-static uint8_t pool[DNK_LONGEST + 1];
+static int failed = 0;
+static uint8_t pool[DNK_LONGEST(DNK_EDITION_2) + 1];
+static uint8_t target[DNK_POOL_LENGTH(DNK_EDITION_2, 13)];
 
 static dnk_answer refused(enum dnk_refusal refusal)
 {
@@ -25,19 +27,8 @@ static int has_name(int number, const char *name)
     return strcmp(dnk_refusal_name((enum dnk_refusal)number), name) == 0;
 }
 
-int main(void)
+static void names(void)
 {
-    int failed = 0;
-    const size_t len = DNK_SHORTEST;
-
-    EXPECT(DNK_SHORTEST == 4264);
-    EXPECT(DNK_LONGEST == 16847015);
-    EXPECT(DNK_POOL_LENGTH(12) == 49496);
-    EXPECT(DNK_POOL_LENGTH(6 + 6) == 49496);
-    EXPECT(dnk_place(len, 0) == 168);
-    EXPECT(dnk_place(DNK_POOL_LENGTH(2) - 1, DNK_PAGE - 1) == 168 + DNK_PAGE - 1);
-    EXPECT(dnk_place(DNK_POOL_LENGTH(12), 12 * DNK_PAGE - 1) == DNK_POOL_LENGTH(12) - 1);
-
     EXPECT(has_name(0, "granted"));
     EXPECT(has_name(1, "too short"));
     EXPECT(has_name(2, "too long"));
@@ -49,13 +40,44 @@ int main(void)
     EXPECT(has_name(8, "unreadable"));
     EXPECT(has_name(10, "nothing asked"));
     EXPECT(has_name(11, "answers too short"));
-    EXPECT(has_name(12, "unknown"));
+    EXPECT(has_name(12, "wrong length"));
+    EXPECT(has_name(13, "unknown"));
+}
 
-    EXPECT(dnk_format(pool, DNK_SHORTEST - 1) == refused(DNK_TOO_SHORT));
-    EXPECT(dnk_format(pool, DNK_LONGEST + 1) == refused(DNK_TOO_LONG));
-    EXPECT(dnk_format(pool, DNK_LONGEST) == DNK_MOST_PAGES);
-    EXPECT(dnk_format(pool, len) == 1);
+static void layouts(void)
+{
+    EXPECT(DNK_CLASS_RECORD(DNK_EDITION_1) == 16 && DNK_CLASS_RECORD(DNK_EDITION_2) == 24);
+    EXPECT(DNK_HEAD(DNK_EDITION_1) == 152 && DNK_HEAD(DNK_EDITION_2) == 224);
+    EXPECT(DNK_SHORTEST(DNK_EDITION_1) == 4264 && DNK_SHORTEST(DNK_EDITION_2) == 4336);
+    EXPECT(DNK_LONGEST(DNK_EDITION_1) == 16847015 && DNK_LONGEST(DNK_EDITION_2) == 16847087);
+    EXPECT(DNK_POOL_LENGTH(DNK_EDITION_1, 12) == 49496 && DNK_POOL_LENGTH(DNK_EDITION_2, 12) == 49568);
+    EXPECT(DNK_POOL_LENGTH(0 + 1, 6 + 6) == 49496);
+}
+
+/* The edition is tried before the length. */
+static void other_editions(void)
+{
+    for (unsigned edition = 0; edition <= 255; edition++) {
+        if (edition != DNK_EDITION_1 && edition != DNK_EDITION_2) {
+            EXPECT(dnk_format(pool, 49496, (uint8_t)edition) == refused(DNK_NOT_SOUND));
+            EXPECT(dnk_format(pool, 0, (uint8_t)edition) == refused(DNK_NOT_SOUND));
+            EXPECT(dnk_format(pool, sizeof pool, (uint8_t)edition) == refused(DNK_NOT_SOUND));
+        }
+    }
+}
+
+static void single_calls(uint8_t edition)
+{
+    const size_t len = DNK_SHORTEST(edition);
+    EXPECT(dnk_format(pool, len - 1, edition) == refused(DNK_TOO_SHORT));
+    EXPECT(dnk_format(pool, DNK_LONGEST(edition) + 1, edition) == refused(DNK_TOO_LONG));
+    EXPECT(dnk_format(pool, DNK_LONGEST(edition), edition) == DNK_MOST_PAGES);
+    EXPECT(dnk_format(pool, len, edition) == 1);
+    EXPECT(pool[0] == edition);
     EXPECT(dnk_validate(pool, len) == 0);
+    EXPECT(dnk_place(pool, len, 0) == DNK_HEAD(edition) + 16);
+    EXPECT(dnk_place(pool, DNK_POOL_LENGTH(edition, 2) - 1, DNK_PAGE - 1) == len - 1);
+    EXPECT(dnk_place(pool, DNK_POOL_LENGTH(edition, 12), 12 * DNK_PAGE - 1) == DNK_POOL_LENGTH(edition, 12) - 1);
 
     dnk_answer answer = dnk_alloc(pool, len, 2000);
     EXPECT(dnk_refusal_of(answer) == DNK_GRANTED && dnk_value_of(answer) == 0);
@@ -70,11 +92,15 @@ int main(void)
     answer = dnk_free(pool, len, 0);
     EXPECT(dnk_refusal_of(answer) == DNK_GRANTED && dnk_value_of(answer) == 2048);
     EXPECT(dnk_free(pool, len, 0) == refused(DNK_NOT_TAKEN));
+}
 
+static void batches(uint8_t edition)
+{
+    const size_t len = DNK_SHORTEST(edition);
     /* one after the other: a chunk, a word with stray bits, nothing, that chunk back and once more */
     const dnk_request requests[] = {dnk_to_alloc(64), dnk_to_alloc(64) | (dnk_request)1 << 32, dnk_to_alloc(0), dnk_to_free(0), dnk_to_free(0)};
     dnk_answer answers[] = {1, 2, 3, 4, 5, 6};
-    EXPECT(dnk_format(pool, len) == 1);
+    EXPECT(dnk_format(pool, len, edition) == 1);
     EXPECT(dnk_batch(pool, len, requests, 5, answers, 4) == refused(DNK_ANSWERS_TOO_SHORT));
     EXPECT(answers[0] == 1 && answers[2] == 3);
     EXPECT(dnk_batch(pool, len, requests, 5, answers, 6) == 0);
@@ -83,23 +109,78 @@ int main(void)
     EXPECT(dnk_batch(pool, len, requests, 0, answers, 0) == 0);
 
     EXPECT(dnk_alloc(pool, len, 2048) == 0 && dnk_alloc(pool, len, 2048) == 2048);
-    pool[0] = 2; /* the edition */
+    pool[0] = 3; /* no edition */
     EXPECT(dnk_batch(pool, len, requests, 0, answers, 0) == refused(DNK_NOT_SOUND));
     EXPECT(dnk_batch(pool, len, requests, 1, answers, 0) == refused(DNK_ANSWERS_TOO_SHORT));
     EXPECT(dnk_validate(pool, len) == 1);
     EXPECT(dnk_free(pool, len, 2048) == refused(DNK_NOT_SOUND));
     EXPECT(dnk_alloc(pool, len, 1) == refused(DNK_NOT_SOUND));
     EXPECT(dnk_alloc(pool, len, 0) == refused(DNK_NOT_SOUND));
+}
 
-    /* Blocks of every class and of whole pages, at multiples of 8 from the pool's first byte. */
+/* Blocks of every class and of whole pages, at multiples of 8 from the pool's first byte. */
+static void alignment(uint8_t edition)
+{
     for (size_t pages = 1; pages <= DNK_MOST_PAGES; pages += pages < 256 ? 1 : 60) {
-        const size_t whole = DNK_POOL_LENGTH(pages);
+        const size_t len = DNK_POOL_LENGTH(edition, pages);
         for (uint32_t size = 8; size <= DNK_PAGE; size *= 2) {
-            EXPECT(dnk_format(pool, whole) == pages);
-            answer = dnk_alloc(pool, whole, size);
+            EXPECT(dnk_format(pool, len, edition) == pages);
+            dnk_answer answer = dnk_alloc(pool, len, size);
             EXPECT(dnk_refusal_of(answer) == DNK_GRANTED);
-            EXPECT(dnk_place(whole, dnk_value_of(answer)) % 8 == 0);
+            EXPECT(dnk_place(pool, len, dnk_value_of(answer)) % 8 == 0);
         }
     }
+}
+
+/* The peak rises with the chunks in use and falls never; a conversion begins it anew. */
+static void peaks(void)
+{
+    size_t len = DNK_POOL_LENGTH(DNK_EDITION_2, 12);
+    EXPECT(dnk_format(pool, len, DNK_EDITION_2) == 12);
+    for (unsigned c = 0; c < DNK_CLASSES; c++) {
+        EXPECT(dnk_peak(pool, c) == 0);
+        dnk_answer first = dnk_alloc(pool, len, UINT32_C(8) << c);
+        dnk_answer second = dnk_alloc(pool, len, UINT32_C(8) << c);
+        EXPECT(dnk_free(pool, len, dnk_value_of(first)) == UINT64_C(8) << c);
+        EXPECT(dnk_peak(pool, c) == 2);
+        EXPECT(dnk_free(pool, len, dnk_value_of(second)) == UINT64_C(8) << c);
+        EXPECT(dnk_peak(pool, c) == 2);
+    }
+    for (unsigned i = 0; i < 300; i++) {
+        EXPECT(dnk_refusal_of(dnk_alloc(pool, len, 8)) == DNK_GRANTED);
+    }
+    EXPECT(dnk_peak(pool, 0) == 300);
+    EXPECT(dnk_convert(pool, len, target, sizeof target) == refused(DNK_NOT_SOUND)); /* edition 2 already */
+
+    len = DNK_POOL_LENGTH(DNK_EDITION_1, 12);
+    EXPECT(dnk_format(pool, len, DNK_EDITION_1) == 12);
+    const uint32_t block = dnk_value_of(dnk_alloc(pool, len, 30));
+    EXPECT(dnk_refusal_of(dnk_alloc(pool, len, 30)) == DNK_GRANTED);
+    memcpy(pool + dnk_place(pool, len, block), "Vega", 5);
+    memset(target, 7, sizeof target);
+    EXPECT(dnk_convert(pool, len, target, sizeof target) == refused(DNK_WRONG_LENGTH)); /* 13 pages */
+    EXPECT(dnk_convert(pool, len, target, len) == refused(DNK_WRONG_LENGTH)); /* 11 pages */
+    EXPECT(dnk_convert(pool, len - 1, target, len) == refused(DNK_NOT_SOUND));
+    EXPECT(target[0] == 7 && target[sizeof target - 1] == 7);
+    EXPECT(dnk_convert(pool, len, target, sizeof target - 1) == 12);
+    EXPECT(dnk_validate(target, sizeof target - 1) == 0);
+    EXPECT(target[0] == DNK_EDITION_2 && pool[0] == DNK_EDITION_1);
+    EXPECT(dnk_peak(target, 2) == 2 && dnk_peak(target, 0) == 0);
+    EXPECT(strcmp((const char *)target + dnk_place(target, sizeof target - 1, block), "Vega") == 0);
+    EXPECT(dnk_free(target, sizeof target - 1, block) == 32);
+    EXPECT(target[DNK_POOL_LENGTH(DNK_EDITION_2, 12)] == 7); /* the tail */
+}
+
+int main(void)
+{
+    names();
+    layouts();
+    other_editions();
+    for (uint8_t edition = DNK_EDITION_1; edition <= DNK_EDITION_2; edition++) {
+        single_calls(edition);
+        batches(edition);
+        alignment(edition);
+    }
+    peaks();
     return failed ? EXIT_FAILURE : EXIT_SUCCESS;
 }

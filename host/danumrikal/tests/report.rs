@@ -7,16 +7,14 @@ use std::path::{Path, PathBuf};
 use std::process::{Command, Stdio};
 use std::{fs, thread};
 
-use danumrikal::{Offset, Pool, Refusal};
+use danumrikal::{check, convert, Edition, Offset, Pool, Refusal};
 use reference::{alloc, broken_rule, format, free, report};
-use support::{
-    class_record_at, length, offset, page_at, page_record_at, Habit, Rng, HEAD, SHORTEST,
-};
+use support::{offset, Habit, Rng, ONE, PER_PAGE, TWO};
 
 const PAGE: &str = include_str!("../../../docs/REPORT.md");
 
 /// The shortest image that is too long.
-const TOO_LONG: usize = length(13);
+const TOO_LONG: usize = ONE.length(13);
 
 fn root() -> PathBuf {
     Path::new(env!("CARGO_MANIFEST_DIR")).join("../..")
@@ -62,10 +60,10 @@ fn alike(image: &[u8], what: &str) {
 
 /// The image whose printout stands in `docs/REPORT.md`.
 fn sample() -> Vec<u8> {
-    let mut bytes = vec![0; length(12)];
+    let mut bytes = vec![0; ONE.length(12)];
     let mut pool = Pool::new(&mut bytes);
     let at = |offset| Ok(Offset(offset));
-    assert_eq!(pool.format(), Ok(12));
+    assert_eq!(pool.format(Edition::One), Ok(12));
     // a pool that is all one block has no room for a chunk
     assert_eq!(pool.alloc(49_152), at(0));
     assert_eq!(pool.alloc(16), Err(Refusal::NoRoom));
@@ -103,8 +101,8 @@ fn the_printout_of_the_page_and_the_stored_case() {
 
 #[test]
 fn a_fresh_pool_of_one_page() {
-    let mut image = vec![0; SHORTEST];
-    format(&mut image).expect("one page");
+    let mut image = vec![0; ONE.shortest()];
+    format(&mut image, 1).expect("one page");
     let classes: String = (3..12)
         .map(|shift| {
             format!(
@@ -120,9 +118,9 @@ fn a_fresh_pool_of_one_page() {
 fn a_packed_page_reads_as_full() {
     for (class, chunks) in [504, 254, 127, 64, 32, 16, 8, 4, 2].into_iter().enumerate() {
         let size = 8 << class;
-        let mut image = vec![0; SHORTEST];
+        let mut image = vec![0; ONE.shortest()];
         let mut pool = Pool::new(&mut image);
-        pool.format().expect("one page");
+        pool.format(Edition::One).expect("one page");
         for _ in 0..chunks {
             pool.alloc(size).expect("a free chunk");
         }
@@ -142,12 +140,12 @@ fn a_packed_page_reads_as_full() {
 #[test]
 fn lengths_that_hold_no_pool_of_twelve_pages() {
     let mut image = vec![0; TOO_LONG];
-    format(&mut image).expect("thirteen pages");
+    format(&mut image, 1).expect("thirteen pages");
     prints(&image, "no 2\n");
     prints(&vec![0xff; 100_000], "no 2\n");
     // one byte less is a length of twelve pages, which the header then denies
     prints(&image[..TOO_LONG - 1], "1\n");
-    prints(&image[..SHORTEST - 1], "1\n");
+    prints(&image[..ONE.shortest() - 1], "1\n");
     prints(&[], "1\n");
     prints(&[1], "1\n");
 }
@@ -163,11 +161,11 @@ fn the_first_broken_rule_is_told_and_nothing_else() {
         image
     };
     let edition = (0, 3);
-    let kind = (page_record_at(0) + 8, 0x80);
+    let kind = (ONE.page_record_at(0) + 8, 0x80);
     let first_run = (7, 1);
-    let first_page = (class_record_at(0) + 1, 1);
-    let used = (class_record_at(0) + 4, 1);
-    let mark = (page_at(12, 1) + 1, 0x80);
+    let first_page = (ONE.class_record_at(0) + 1, 1);
+    let used = (ONE.class_record_at(0) + 4, 1);
+    let mark = (ONE.page_at(12, 1) + 1, 0x80);
     prints(&damaged(&[edition]), "1\n");
     prints(&damaged(&[kind]), "2\n");
     prints(&damaged(&[first_run]), "3\n");
@@ -180,10 +178,33 @@ fn the_first_broken_rule_is_told_and_nothing_else() {
     prints(&damaged(&[used, first_page]), "4\n");
 }
 
+/// The program stays with edition 1: another edition breaks rule 1 there,
+/// whatever rules its records keep or break.
+#[test]
+fn an_image_of_edition_2_breaks_rule_1() {
+    let mut image = vec![0; TWO.length(12)];
+    assert_eq!(convert(&sample(), &mut image), Ok(12));
+    assert_eq!(check(&image), Ok(()));
+    prints(&image, "1\n");
+    image[5] ^= 1; // its count of free pages
+    assert_eq!(broken_rule(&image), 6);
+    prints(&image, "1\n");
+    for pages in 1..=12 {
+        let mut image = vec![0; TWO.length(pages)];
+        format(&mut image, 2).expect("a page or more");
+        prints(&image, "1\n");
+    }
+    // an image of edition 1 with the other number
+    let mut image = sample();
+    image[0] = 2;
+    prints(&image, "1\n");
+    prints(&vec![2; TOO_LONG], "no 2\n");
+}
+
 #[test]
 fn the_fullest_pool() {
     let mut image = vec![0; TOO_LONG - 1];
-    format(&mut image).expect("twelve pages");
+    format(&mut image, 1).expect("twelve pages");
     while alloc(&mut image, 8).is_ok() {}
     // asks and failures are whatever they are
     image[16..24].fill(0xff);
@@ -203,9 +224,9 @@ fn image(seed: u64) -> Vec<u8> {
     let mut rng = Rng::new(seed);
     let habit = Habit::any(&mut rng);
     let pages = 1 + rng.below(12) as usize;
-    let tail = rng.below(4_112) as usize;
-    let mut image = rng.bytes(length(pages) + tail);
-    format(&mut image).expect("a page or more");
+    let tail = rng.below(PER_PAGE as u64) as usize;
+    let mut image = rng.bytes(ONE.length(pages) + tail);
+    format(&mut image, 1).expect("a page or more");
     let mut live: Vec<u32> = Vec::new();
     for _ in 0..rng.below(600) {
         if rng.below(16) < habit.allocs {
@@ -234,13 +255,13 @@ fn damaged_images_print_what_the_second_program_prints() {
     for seed in 0..400 {
         let mut rng = Rng::new(seed);
         let mut image = image(seed);
-        let pages = (image.len() - HEAD) / (length(1) - HEAD);
+        let pages = (image.len() - ONE.head()) / PER_PAGE;
         match rng.below(16) {
             0 => image.truncate(rng.below(image.len() as u64 + 1) as usize),
-            1 => image.resize(length(rng.below(16) as usize), 0),
+            1 => image.resize(ONE.length(rng.below(16) as usize), 0),
             _ => {
                 // a byte of header, records or the first maps
-                let end = (page_at(pages, 0) + 64) as u64;
+                let end = (ONE.page_at(pages, 0) + 64) as u64;
                 let at = rng.below(end) as usize;
                 image[at] ^= 1 << rng.below(8);
             }

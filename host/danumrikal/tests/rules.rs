@@ -1,16 +1,20 @@
-//! A broken example for each rule, and the number that it earns: the table of
-//! `docs/RULES.md`, which this test holds against what the pool answers.
+//! A broken example for each rule, and the number that it earns, in both
+//! editions: the table of `docs/RULES.md`, which this test holds against what the
+//! pool answers.
 
 use danumrikal::{check, Offset, Pool, Refusal};
-use support::{
-    callers_bytes, class_record_at, length, page_at, page_record_at, Rng, LONGEST, RECORD, SHORTEST,
-};
+use support::{Edition, Rng, EDITIONS, TWO};
 
 const PAGES: usize = 8;
 const NONE: u64 = 65_535;
 
 /// A damage to a sound pool of eight pages.
 type Damage = fn(&mut Vec<u8>);
+
+/// The edition of a pool whose first byte is not damaged yet.
+fn edition(pool: &[u8]) -> Edition {
+    EDITIONS[usize::from(pool[0]) - 1]
+}
 
 fn word(pool: &[u8], at: usize) -> u64 {
     u64::from_be_bytes(pool[at..at + 8].try_into().expect("eight bytes"))
@@ -29,17 +33,40 @@ fn header(pool: &mut [u8], low: u32, width: u32, value: u64) {
 
 /// First page, used and total of a class.
 fn counts(pool: &mut [u8], class: usize, low: u32, width: u32, value: u64) {
-    set(pool, class_record_at(class), low, width, value);
+    set(
+        pool,
+        edition(pool).class_record_at(class),
+        low,
+        width,
+        value,
+    );
+}
+
+/// The peak of a class, or the zero bits behind it.
+fn third(pool: &mut [u8], class: usize, low: u32, width: u32, value: u64) {
+    set(
+        pool,
+        edition(pool).class_record_at(class) + 16,
+        low,
+        width,
+        value,
+    );
 }
 
 fn map(pool: &mut [u8], page: usize, value: u64) {
-    let at = page_record_at(page);
+    let at = edition(pool).page_record_at(page);
     pool[at..at + 8].copy_from_slice(&value.to_be_bytes());
 }
 
 /// A field of a page record but its map.
 fn field(pool: &mut [u8], page: usize, low: u32, width: u32, value: u64) {
-    set(pool, page_record_at(page) + 8, low, width, value);
+    set(
+        pool,
+        edition(pool).page_record_at(page) + 8,
+        low,
+        width,
+        value,
+    );
 }
 
 fn kind(pool: &mut [u8], page: usize, value: u64) {
@@ -64,10 +91,10 @@ fn previous(pool: &mut [u8], page: usize, value: u64) {
 
 /// Page 0 of class 8, page 1 free, page 2 full of class 2,048, pages 3 and 4 a
 /// taken run, pages 5 to 7 free; the list of free runs is 1, 5.
-fn sound() -> Vec<u8> {
-    let mut bytes = vec![0; length(PAGES) + 100];
+fn sound(edition: Edition) -> Vec<u8> {
+    let mut bytes = vec![0; edition.length(PAGES) + 100];
+    reference::format(&mut bytes, edition.number).expect("eight pages");
     let mut pool = Pool::new(&mut bytes);
-    pool.format().expect("eight pages");
     assert_eq!(pool.alloc(8), Ok(Offset(64)));
     let chunk = pool.alloc(64).expect("room");
     assert_eq!(pool.alloc(2_048), Ok(Offset(8_192)));
@@ -77,40 +104,47 @@ fn sound() -> Vec<u8> {
     bytes
 }
 
-/// Where the map of page 0 lies, which is of class 8.
-const MAP: usize = page_at(PAGES, 0);
+/// A byte of the map of page 0, which is of class 8.
+fn map_byte(pool: &mut [u8], byte: usize) -> &mut u8 {
+    let map = edition(pool).page_at(PAGES, 0);
+    &mut pool[map + byte]
+}
 
 const CASES: &[(&str, Damage)] = &[
     ("nothing is damaged", |_| {}),
     ("callers' bytes and the tail hold anything", |pool| {
-        pool[callers_bytes(PAGES, 0, 64)].fill(0xa5);
-        pool[page_at(PAGES, 1)..].fill(0x5a);
+        let edition = edition(pool);
+        pool[edition.callers_bytes(PAGES, 0, 64)].fill(0xa5);
+        pool[edition.page_at(PAGES, 1)..].fill(0x5a);
     }),
     (
         "reqs and fails of every class are the largest numbers",
         |pool| {
             for class in 0..9 {
-                let at = class_record_at(class);
-                pool[at + 8..at + RECORD].fill(0xff);
+                let at = edition(pool).class_record_at(class);
+                pool[at + 8..at + 16].fill(0xff);
             }
         },
     ),
     ("the slice is empty", |pool| pool.clear()),
     ("the slice is all zero", |pool| pool.fill(0)),
     ("the slice is all ones", |pool| pool.fill(0xff)),
-    ("random bytes", |pool| *pool = Rng::new(5).bytes(length(12))),
+    ("random bytes", |pool| *pool = Rng::new(5).bytes(pool.len())),
     ("one byte too few for a page", |pool| {
-        pool.truncate(SHORTEST - 1)
+        pool.truncate(edition(pool).shortest() - 1)
     }),
     ("a page fewer than the header says", |pool| {
-        pool.truncate(length(7))
+        pool.truncate(edition(pool).length(7))
     }),
     ("a page more than the header says", |pool| {
-        pool.resize(length(9), 0)
+        pool.resize(edition(pool).length(9), 0)
     }),
-    ("as long as 4,097 pages", |pool| pool.resize(LONGEST + 1, 0)),
+    ("as long as 4,097 pages", |pool| {
+        pool.resize(edition(pool).longest() + 1, 0)
+    }),
     ("edition 0", |pool| header(pool, 56, 8, 0)),
-    ("edition 2", |pool| header(pool, 56, 8, 2)),
+    ("edition 3", |pool| header(pool, 56, 8, 3)),
+    ("the other edition, of as many pages", |pool| pool[0] ^= 3),
     ("smallest shift 4", |pool| header(pool, 52, 4, 4)),
     ("page shift 11", |pool| header(pool, 48, 4, 11)),
     ("page count 7 in the header", |pool| header(pool, 32, 16, 7)),
@@ -145,7 +179,9 @@ const CASES: &[(&str, Damage)] = &[
     }),
     ("a class page of class 9", |pool| class(pool, 2, 9)),
     ("a class page has a run length", |pool| run(pool, 0, 1)),
-    ("a chunk of the map is not marked", |pool| pool[MAP] = 0x7f),
+    ("a chunk of the map is not marked", |pool| {
+        *map_byte(pool, 0) = 0x7f
+    }),
     ("a page of class 8 has a map field", |pool| map(pool, 0, 1)),
     ("an unused low bit of a map is set", |pool| {
         map(pool, 2, 0xc000_0000_0000_0001)
@@ -206,7 +242,7 @@ const CASES: &[(&str, Damage)] = &[
         previous(pool, 0, 2)
     }),
     ("a class page without a chunk in use", |pool| {
-        pool[MAP + 1] = 0
+        *map_byte(pool, 1) = 0
     }),
     ("free pages one too many", |pool| header(pool, 16, 16, 5)),
     ("free pages one too few", |pool| header(pool, 16, 16, 3)),
@@ -214,7 +250,9 @@ const CASES: &[(&str, Damage)] = &[
     ("used counts the map's own chunks", |pool| {
         counts(pool, 0, 24, 24, 9)
     }),
-    ("a mark that used does not count", |pool| pool[MAP + 63] = 1),
+    ("a mark that used does not count", |pool| {
+        *map_byte(pool, 63) = 1
+    }),
     ("total with the map's own chunks", |pool| {
         counts(pool, 0, 0, 24, 512)
     }),
@@ -226,21 +264,56 @@ const CASES: &[(&str, Damage)] = &[
     }),
 ];
 
+/// Damages to what edition 2 alone has.
+const PEAK_CASES: &[(&str, Damage)] = &[
+    ("a peak above used", |pool| third(pool, 0, 40, 24, 2)),
+    ("peaks are the largest numbers", |pool| {
+        for class in 0..9 {
+            third(pool, class, 40, 24, 0xff_ffff);
+        }
+    }),
+    ("a peak below used", |pool| third(pool, 8, 40, 24, 1)),
+    ("no peak of a class in use", |pool| {
+        third(pool, 0, 40, 24, 0)
+    }),
+    ("the first zero bit behind a peak is set", |pool| {
+        third(pool, 4, 39, 1, 1)
+    }),
+    ("the last zero bit behind a peak is set", |pool| {
+        third(pool, 8, 0, 1, 1)
+    }),
+];
+
+/// The first rule that the pool breaks; a refused call does not change it.
+fn first_broken(name: &str, mut pool: Vec<u8>) -> u8 {
+    let rule = check(&pool).err().map_or(0, |rule| rule.number());
+    assert_eq!(rule, reference::broken_rule(&pool), "{name}");
+    let before = pool.clone();
+    let answer = Pool::new(&mut pool).alloc(1);
+    assert_eq!(answer == Err(Refusal::NotSound), rule != 0, "{name}");
+    assert!(
+        rule == 0 || pool == before,
+        "{name}: a refused call changed the pool"
+    );
+    rule
+}
+
+fn damaged(edition: Edition, damage: Damage) -> Vec<u8> {
+    let mut pool = sound(edition);
+    damage(&mut pool);
+    pool
+}
+
 fn table() -> String {
     let mut text = String::from("| Damage | First broken rule |\n|---|---|\n");
     for (name, damage) in CASES {
-        let mut pool = sound();
-        damage(&mut pool);
-        let rule = check(&pool).err().map_or(0, |rule| rule.number());
-        assert_eq!(rule, reference::broken_rule(&pool), "{name}");
-        let before = pool.clone();
-        let answer = Pool::new(&mut pool).alloc(1);
-        assert_eq!(answer == Err(Refusal::NotSound), rule != 0, "{name}");
-        assert!(
-            rule == 0 || pool == before,
-            "{name}: a refused call changed the pool"
-        );
+        let [rule, other] = EDITIONS.map(|edition| first_broken(name, damaged(edition, *damage)));
+        assert_eq!(rule, other, "{name}: the editions differ");
         text.push_str(&format!("| {name} | {rule} |\n"));
+    }
+    for (name, damage) in PEAK_CASES {
+        let rule = first_broken(name, damaged(TWO, *damage));
+        text.push_str(&format!("| edition 2: {name} | {rule} |\n"));
     }
     text
 }

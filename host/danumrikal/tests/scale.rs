@@ -3,8 +3,8 @@
 //! and then, and a batch on what the calls leave. `DANUMRIKAL_TIMES` makes the
 //! games so many times as long.
 
-use danumrikal::{Answer, Offset, Pool, Request};
-use support::{length, Rng, PAGE};
+use danumrikal::{Answer, Edition, Offset, Pool, Request};
+use support::{Rng, PAGE};
 
 const CALLS: u64 = 20_000;
 
@@ -77,16 +77,18 @@ impl Pair {
     }
 }
 
-fn play(pages: usize, seed: u64) {
+fn play(edition: Edition, pages: usize, seed: u64) {
     let mut rng = Rng::new(seed);
-    let bytes = vec![0xa5; length(pages) + 100];
+    let bytes = vec![0xa5; edition.length(pages) + 100];
     let mut pair = Pair {
         proved: bytes.clone(),
         second: bytes,
         live: Vec::new(),
     };
-    assert_eq!(Pool::new(&mut pair.proved).format(), Ok(pages as u32));
-    assert_eq!(reference::format(&mut pair.second), Ok(pages as u32));
+    let formatted = Pool::new(&mut pair.proved).format(edition);
+    assert_eq!(formatted, Ok(pages as u32));
+    let formatted = reference::format(&mut pair.second, edition.number());
+    assert_eq!(formatted, Ok(pages as u32));
     let mut last = 0;
     let mut refused = 0;
     for call in 0..CALLS * times() {
@@ -121,12 +123,16 @@ fn play(pages: usize, seed: u64) {
 
 #[test]
 fn a_thousand_pages() {
-    for seed in 0..3 {
-        play(1_000, seed);
+    for seed in 0..2 {
+        for edition in [Edition::One, Edition::Two] {
+            play(edition, 1_000, seed);
+        }
     }
 }
 
 #[test]
-fn the_largest_pool() {
-    play(4_096, 7);
+fn the_largest_pools() {
+    for edition in [Edition::One, Edition::Two] {
+        play(edition, 4_096, 7);
+    }
 }

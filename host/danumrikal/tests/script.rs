@@ -7,7 +7,7 @@ use std::process::{Command, Stdio};
 use std::thread;
 
 use reference::{alloc, format, free, run_script};
-use support::{length, offset, Habit, Rng};
+use support::{offset, Habit, Rng, ONE};
 
 /// Runs the program on an input and answers what it printed.
 fn program(input: &[u8]) -> Vec<u8> {
@@ -148,8 +148,8 @@ fn spoilt(rng: &mut Rng, line: &str) -> Vec<u8> {
 fn script(seed: u64) -> Vec<u8> {
     let mut rng = Rng::new(seed);
     let habit = Habit::any(&mut rng);
-    let mut pool = vec![0; length(12)];
-    format(&mut pool).expect("twelve pages");
+    let mut pool = vec![0; ONE.length(12)];
+    format(&mut pool, 1).expect("twelve pages");
     let mut taken: Vec<u32> = Vec::new();
     let mut script = Vec::new();
     for _ in 0..rng.below(900) {

@@ -1,7 +1,8 @@
 //! The bytes of a pool: constants, packed records, and where each begins.
 //!
-//! Fields are packed most significant bit first, so each record is one or two
-//! big-endian 64-bit words, read and written where they stand.
+//! Fields are packed most significant bit first, so each record is one to three
+//! big-endian 64-bit words, read and written where they stand. Where they stand
+//! the edition says, which is known before anything else of a pool is read.
 //!
 //! A position past the slice reads as 0 and takes no write. On a sound pool
 //! that never happens; it keeps the calls that skip validation from panicking
@@ -10,8 +11,6 @@
 use crate::class::{Class, CLASSES};
 use crate::refusal::Refusal;
 
-/// The edition of the record layout.
-pub const EDITION: u32 = 1;
 /// Binary logarithm of the smallest chunk.
 pub const MIN_SHIFT: u32 = 3;
 /// Binary logarithm of the page size.
@@ -23,9 +22,7 @@ pub const MAX_PAGES: u32 = 4_096;
 
 const WORD_BYTES: usize = 8;
 const HEADER_BYTES: usize = 8;
-const CLASS_RECORD_BYTES: usize = 16;
 const PAGE_RECORD_BYTES: usize = 16;
-const PAGE_RECORDS_AT: usize = HEADER_BYTES + CLASSES * CLASS_RECORD_BYTES;
 
 /// Kind of a page inside a free run.
 pub const FREE_INSIDE: u32 = 0;
@@ -73,43 +70,103 @@ impl Offset {
     }
 }
 
-/// How many pages a slice of this length holds, or why it can be no pool.
-pub fn page_count(length: usize) -> Result<u32, Refusal> {
-    let pages = length.saturating_sub(PAGE_RECORDS_AT) / (PAGE_RECORD_BYTES + PAGE_SIZE as usize);
-    if pages == 0 {
-        Err(Refusal::TooShort)
-    } else if pages > MAX_PAGES as usize {
-        Err(Refusal::TooLong)
-    } else {
-        Ok(pages as u32)
+/// An edition of the records.
+#[derive(Clone, Copy, Debug, PartialEq, Eq)]
+pub enum Edition {
+    /// Class records of 16 bytes.
+    One,
+    /// Class records of 24 bytes, the last eight for the peak.
+    Two,
+}
+
+impl Edition {
+    /// The edition with this number, if there is one.
+    pub fn from_number(number: u8) -> Option<Edition> {
+        match number {
+            1 => Some(Edition::One),
+            2 => Some(Edition::Two),
+            _ => None,
+        }
+    }
+
+    /// The number that stands in the header.
+    pub fn number(self) -> u32 {
+        match self {
+            Edition::One => 1,
+            Edition::Two => 2,
+        }
+    }
+
+    fn class_record_bytes(self) -> usize {
+        match self {
+            Edition::One => 16,
+            Edition::Two => 24,
+        }
+    }
+
+    fn page_records_at(self) -> usize {
+        HEADER_BYTES + CLASSES * self.class_record_bytes()
     }
 }
 
-/// Where a page begins in the slice of a pool of `pages` pages.
-pub fn page_at(pages: u32, page: PageNo) -> usize {
-    page_record_at(PageNo(pages)) + ((page.0 as usize) << PAGE_SHIFT)
+/// Edition and page count of a pool, which say where everything lies.
+#[derive(Clone, Copy, Debug, PartialEq, Eq)]
+pub struct Layout {
+    /// How wide the class records are.
+    pub edition: Edition,
+    /// How many pages there are.
+    pub pages: u32,
 }
 
-/// Where the bitmap of a page of this class begins in the slice.
-pub fn bitmap_at(pages: u32, page: PageNo, class: Class) -> usize {
-    if class.bitmap_in_page() {
-        page_at(pages, page)
-    } else {
-        page_record_at(page)
+impl Layout {
+    /// What a slice of this length holds in the edition with this number, or
+    /// why it can be no pool.
+    pub fn new(edition: u8, length: usize) -> Result<Layout, Refusal> {
+        let edition = Edition::from_number(edition).ok_or(Refusal::NotSound)?;
+        let behind_head = length.saturating_sub(edition.page_records_at());
+        let pages = behind_head / (PAGE_RECORD_BYTES + PAGE_SIZE as usize);
+        if pages == 0 {
+            Err(Refusal::TooShort)
+        } else if pages > MAX_PAGES as usize {
+            Err(Refusal::TooLong)
+        } else {
+            let pages = pages as u32;
+            Ok(Layout { edition, pages })
+        }
+    }
+
+    /// The layout of a pool, by the edition in its first byte and its length.
+    pub fn of(bytes: &[u8]) -> Result<Layout, Refusal> {
+        let edition = bytes.first().ok_or(Refusal::NotSound)?;
+        Layout::new(*edition, bytes.len())
+    }
+
+    /// Where a page begins in the slice.
+    pub fn page_at(self, page: PageNo) -> usize {
+        self.page_record_at(PageNo(self.pages)) + ((page.0 as usize) << PAGE_SHIFT)
+    }
+
+    /// Where the bitmap of a page of this class begins in the slice.
+    pub fn bitmap_at(self, page: PageNo, class: Class) -> usize {
+        if class.bitmap_in_page() {
+            self.page_at(page)
+        } else {
+            self.page_record_at(page)
+        }
+    }
+
+    fn class_record_at(self, class: Class) -> usize {
+        HEADER_BYTES + class.index() * self.edition.class_record_bytes()
+    }
+
+    fn page_record_at(self, page: PageNo) -> usize {
+        self.edition.page_records_at() + page.0 as usize * PAGE_RECORD_BYTES
     }
 }
 
 /// Where word `index` of the bitmap that begins at `bitmap` begins.
 pub fn bitmap_word_at(bitmap: usize, index: usize) -> usize {
     bitmap + index * WORD_BYTES
-}
-
-fn class_record_at(class: Class) -> usize {
-    HEADER_BYTES + class.index() * CLASS_RECORD_BYTES
-}
-
-fn page_record_at(page: PageNo) -> usize {
-    PAGE_RECORDS_AT + page.0 as usize * PAGE_RECORD_BYTES
 }
 
 /// The big-endian word at this position.
@@ -147,8 +204,12 @@ impl Field {
         u64::BITS - self.above - self.width
     }
 
+    fn bits(self, word: u64) -> u64 {
+        word >> self.shift() & self.mask()
+    }
+
     fn get(self, word: u64) -> u32 {
-        (word >> self.shift() & self.mask()) as u32
+        self.bits(word) as u32
     }
 
     fn page(self, word: u64) -> PageNo {
@@ -176,6 +237,8 @@ const CLASS_USED: Field = field(16, 24);
 const CLASS_TOTAL: Field = field(40, 24);
 const CLASS_REQS: Field = field(0, 32);
 const CLASS_FAILS: Field = field(32, 32);
+const CLASS_PEAK: Field = field(0, 24);
+const CLASS_ZEROS: Field = field(24, 40);
 
 const PAGE_KIND: Field = field(0, 3);
 const PAGE_CLASS: Field = field(3, 4);
@@ -202,13 +265,13 @@ pub struct Header {
 }
 
 impl Header {
-    /// The header of a pool of `pages` pages, with its free pages and list head.
-    pub fn new(pages: u32, free: u32, first: PageNo) -> Header {
+    /// The header of a pool, with its free pages and list head.
+    pub fn new(layout: Layout, free: u32, first: PageNo) -> Header {
         Header {
-            edition: EDITION,
+            edition: layout.edition.number(),
             min_shift: MIN_SHIFT,
             page_shift: PAGE_SHIFT,
-            pages,
+            pages: layout.pages,
             free,
             first,
         }
@@ -252,21 +315,57 @@ pub struct ClassRecord {
     pub reqs: u32,
     /// Refused requests so far, up to the largest number.
     pub fails: u32,
+    /// The third word, which edition 2 alone has.
+    pub peak: Option<Peak>,
+}
+
+/// The third word of a class record.
+#[derive(Clone, Copy, Debug, PartialEq, Eq)]
+pub struct Peak {
+    /// The largest `used` so far.
+    pub most: u32,
+    /// Bits without a use.
+    pub zeros: u64,
 }
 
 impl ClassRecord {
     /// The record of a class without pages or history.
-    pub const NEW: ClassRecord = ClassRecord {
-        first: PageNo::NONE,
-        used: 0,
-        total: 0,
-        reqs: 0,
-        fails: 0,
-    };
+    pub fn new(edition: Edition) -> ClassRecord {
+        ClassRecord {
+            first: PageNo::NONE,
+            used: 0,
+            total: 0,
+            reqs: 0,
+            fails: 0,
+            peak: None,
+        }
+        .in_edition(edition)
+    }
+
+    /// The same record in an edition; where that brings the peak, its history
+    /// begins with the chunks used now.
+    pub fn in_edition(self, edition: Edition) -> ClassRecord {
+        let peak = match edition {
+            Edition::One => None,
+            Edition::Two => Some(Peak {
+                most: self.used,
+                zeros: 0,
+            }),
+        };
+        ClassRecord { peak, ..self }
+    }
+
+    /// Counts a chunk more in use.
+    pub fn count_used(&mut self) {
+        self.used += 1;
+        if let Some(peak) = &mut self.peak {
+            peak.most = peak.most.max(self.used);
+        }
+    }
 
     /// Reads the record of a class.
-    pub fn read(bytes: &[u8], class: Class) -> ClassRecord {
-        let at = class_record_at(class);
+    pub fn read(bytes: &[u8], layout: Layout, class: Class) -> ClassRecord {
+        let at = layout.class_record_at(class);
         let list = word(bytes, at);
         let history = word(bytes, at + WORD_BYTES);
         ClassRecord {
@@ -275,17 +374,37 @@ impl ClassRecord {
             total: CLASS_TOTAL.get(list),
             reqs: CLASS_REQS.get(history),
             fails: CLASS_FAILS.get(history),
+            peak: match layout.edition {
+                Edition::One => None,
+                Edition::Two => Some(Peak::read(word(bytes, at + 2 * WORD_BYTES))),
+            },
         }
     }
 
     /// Writes the record of a class.
-    pub fn write(&self, bytes: &mut [u8], class: Class) {
-        let at = class_record_at(class);
+    pub fn write(&self, bytes: &mut [u8], layout: Layout, class: Class) {
+        let at = layout.class_record_at(class);
         let list =
             CLASS_FIRST.put(self.first.0) | CLASS_USED.put(self.used) | CLASS_TOTAL.put(self.total);
         let history = CLASS_REQS.put(self.reqs) | CLASS_FAILS.put(self.fails);
         set_word(bytes, at, list);
         set_word(bytes, at + WORD_BYTES, history);
+        if let Some(peak) = self.peak {
+            set_word(bytes, at + 2 * WORD_BYTES, peak.word());
+        }
+    }
+}
+
+impl Peak {
+    fn read(word: u64) -> Peak {
+        Peak {
+            most: CLASS_PEAK.get(word),
+            zeros: CLASS_ZEROS.bits(word),
+        }
+    }
+
+    fn word(self) -> u64 {
+        CLASS_PEAK.put(self.most) | self.zeros
     }
 }
 
@@ -323,8 +442,8 @@ impl PageRecord {
     }
 
     /// Reads the record of a page.
-    pub fn read(bytes: &[u8], page: PageNo) -> PageRecord {
-        let at = page_record_at(page);
+    pub fn read(bytes: &[u8], layout: Layout, page: PageNo) -> PageRecord {
+        let at = layout.page_record_at(page);
         let fields = word(bytes, at + WORD_BYTES);
         PageRecord {
             bitmap: word(bytes, at),
@@ -338,8 +457,8 @@ impl PageRecord {
     }
 
     /// Writes the record of a page.
-    pub fn write(&self, bytes: &mut [u8], page: PageNo) {
-        let at = page_record_at(page);
+    pub fn write(&self, bytes: &mut [u8], layout: Layout, page: PageNo) {
+        let at = layout.page_record_at(page);
         let fields = PAGE_KIND.put(self.kind)
             | PAGE_CLASS.put(self.class)
             | PAGE_RUN.put(self.run)
@@ -352,17 +471,17 @@ impl PageRecord {
 }
 
 /// Changes a page record's `next` alone.
-pub fn set_next(bytes: &mut [u8], page: PageNo, next: PageNo) {
-    replace_page_field(bytes, page, PAGE_NEXT, next.0);
+pub fn set_next(bytes: &mut [u8], layout: Layout, page: PageNo, next: PageNo) {
+    replace_page_field(bytes, layout, page, PAGE_NEXT, next.0);
 }
 
 /// Changes a page record's `previous` alone.
-pub fn set_previous(bytes: &mut [u8], page: PageNo, previous: PageNo) {
-    replace_page_field(bytes, page, PAGE_PREVIOUS, previous.0);
+pub fn set_previous(bytes: &mut [u8], layout: Layout, page: PageNo, previous: PageNo) {
+    replace_page_field(bytes, layout, page, PAGE_PREVIOUS, previous.0);
 }
 
-fn replace_page_field(bytes: &mut [u8], page: PageNo, field: Field, value: u32) {
-    let at = page_record_at(page) + WORD_BYTES;
+fn replace_page_field(bytes: &mut [u8], layout: Layout, page: PageNo, field: Field, value: u32) {
+    let at = layout.page_record_at(page) + WORD_BYTES;
     let fields = word(bytes, at);
     set_word(bytes, at, field.replace(fields, value));
 }

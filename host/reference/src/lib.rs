@@ -5,7 +5,8 @@
 //! pool is a lent slice of bytes; every call works on that slice in place.
 //!
 //! - [`format()`], [`validate()`], [`alloc()`], [`free()`] and [`batch()`] are the
-//!   calls.
+//!   calls, on pools of both editions; [`convert()`] leads from the first to the
+//!   second.
 //! - [`view`] predicts, from calls and answers alone, what a pool must show.
 //! - [`script`] serves a text of takes and gives.
 //! - [`mod@report`] prints what the image of a pool holds.
@@ -15,6 +16,7 @@
 
 pub mod batch;
 pub mod class;
+pub mod convert;
 pub mod layout;
 pub mod pool;
 pub mod refusal;
@@ -25,9 +27,11 @@ pub mod view;
 
 pub use batch::batch;
 pub use class::{need, Class, Need, CLASSES};
+pub use convert::convert;
+pub use layout::{Edition, Layout};
 pub use pool::{alloc, alloc_sound, format, free, free_sound};
 pub use refusal::Refusal;
 pub use report::report;
 pub use script::run_script;
 pub use validate::{broken_rule, validate};
-pub use view::{live_blocks, shown, Block, Call, LiveSet, View};
+pub use view::{live_blocks, peaks, shown, Block, Call, LiveSet, Peaks, View};

@@ -5,9 +5,8 @@
 
 use crate::class::{need, Class, Need};
 use crate::layout::{
-    bitmap_at, bitmap_word_at, page_count, set_next, set_previous, set_word, word, ClassRecord,
-    Header, Offset, PageNo, PageRecord, CLASS_PAGE, FREE_FIRST, FREE_INSIDE, PAGE_SIZE,
-    TAKEN_FIRST, TAKEN_INSIDE,
+    bitmap_word_at, set_next, set_previous, set_word, word, ClassRecord, Header, Layout, Offset,
+    PageNo, PageRecord, CLASS_PAGE, FREE_FIRST, FREE_INSIDE, PAGE_SIZE, TAKEN_FIRST, TAKEN_INSIDE,
 };
 use crate::refusal::Refusal;
 use crate::validate::validate;
@@ -15,19 +14,21 @@ use crate::validate::validate;
 /// The mark of chunk 0 in a bitmap word.
 const FIRST_MARK: u64 = 1 << 63;
 
-/// Makes the slice a pool with one free run, and answers its page count.
+/// Makes the slice a pool of this edition with one free run, and answers its
+/// page count.
 ///
 /// Page bytes and the tail stay as they are.
-pub fn format(bytes: &mut [u8]) -> Result<u32, Refusal> {
-    let pages = page_count(bytes.len())?;
+pub fn format(bytes: &mut [u8], edition: u8) -> Result<u32, Refusal> {
+    let layout = Layout::new(edition, bytes.len())?;
+    let pages = layout.pages;
     for class in Class::all() {
-        ClassRecord::NEW.write(bytes, class);
+        ClassRecord::new(layout.edition).write(bytes, layout, class);
     }
     for page in 0..pages {
-        PageRecord::new(FREE_INSIDE).write(bytes, PageNo(page));
+        PageRecord::new(FREE_INSIDE).write(bytes, layout, PageNo(page));
     }
-    let mut header = Header::new(pages, pages, PageNo::NONE);
-    let mut pool = Pool { bytes, pages };
+    let mut header = Header::new(layout, pages, PageNo::NONE);
+    let mut pool = Pool { bytes, layout };
     pool.push_run(&mut header, PageNo(0), pages);
     header.write(bytes);
     Ok(pages)
@@ -71,10 +72,10 @@ pub fn free_sound(bytes: &mut [u8], offset: u32) -> Result<u32, Refusal> {
     let mut pool = Pool::open(bytes)?;
     let offset = Offset(offset);
     let page = offset.page();
-    if page.0 >= pool.pages {
+    if page.0 >= pool.layout.pages {
         return Err(Refusal::Outside);
     }
-    let record = PageRecord::read(pool.bytes, page);
+    let record = pool.page(page);
     match record.kind {
         FREE_INSIDE | FREE_FIRST => Err(Refusal::NotTaken),
         CLASS_PAGE => pool.free_chunk(page, record.class, offset.within()),
@@ -98,36 +99,60 @@ fn is_unused(bytes: &[u8], bitmap: usize, class: Class) -> bool {
         && (1..class.bitmap_words()).all(|index| word(bytes, bitmap_word_at(bitmap, index)) == 0)
 }
 
-/// A pool whose length has been seen to hold pages.
+/// A pool whose edition and length have been seen to hold pages.
 struct Pool<'a> {
     bytes: &'a mut [u8],
-    pages: u32,
+    layout: Layout,
 }
 
 impl Pool<'_> {
     fn open(bytes: &mut [u8]) -> Result<Pool<'_>, Refusal> {
-        match page_count(bytes.len()) {
-            Ok(pages) => Ok(Pool { bytes, pages }),
+        match Layout::of(bytes) {
+            Ok(layout) => Ok(Pool { bytes, layout }),
             Err(_) => Err(Refusal::NotSound),
         }
     }
 
+    fn class(&self, class: Class) -> ClassRecord {
+        ClassRecord::read(self.bytes, self.layout, class)
+    }
+
+    fn set_class(&mut self, class: Class, record: ClassRecord) {
+        record.write(self.bytes, self.layout, class);
+    }
+
+    fn page(&self, page: PageNo) -> PageRecord {
+        PageRecord::read(self.bytes, self.layout, page)
+    }
+
+    fn set_page(&mut self, page: PageNo, record: PageRecord) {
+        record.write(self.bytes, self.layout, page);
+    }
+
+    fn set_next(&mut self, page: PageNo, next: PageNo) {
+        set_next(self.bytes, self.layout, page, next);
+    }
+
+    fn set_previous(&mut self, page: PageNo, previous: PageNo) {
+        set_previous(self.bytes, self.layout, page, previous);
+    }
+
     fn alloc_chunk(&mut self, class: Class) -> Result<Offset, Refusal> {
-        let mut record = ClassRecord::read(self.bytes, class);
+        let mut record = self.class(class);
         record.reqs = record.reqs.saturating_add(1);
         let answer = if record.first == PageNo::NONE {
             self.cut_page(class, &mut record)
         } else {
             self.take_chunk(class, &mut record)
         };
-        record.write(self.bytes, class);
+        self.set_class(class, record);
         answer
     }
 
     /// Takes the lowest free chunk of the first page on the class list.
     fn take_chunk(&mut self, class: Class, record: &mut ClassRecord) -> Result<Offset, Refusal> {
         let page = record.first;
-        let bitmap = bitmap_at(self.pages, page, class);
+        let bitmap = self.layout.bitmap_at(page, class);
         for index in 0..class.bitmap_words() {
             let at = bitmap_word_at(bitmap, index);
             let marks = word(self.bytes, at);
@@ -137,7 +162,7 @@ impl Pool<'_> {
             }
             let bit = free.leading_zeros();
             set_word(self.bytes, at, marks | FIRST_MARK >> bit);
-            record.used += 1;
+            record.count_used();
             if is_full(self.bytes, bitmap, class) {
                 self.unlink(&mut record.first, page);
             }
@@ -158,16 +183,16 @@ impl Pool<'_> {
             class: class.number(),
             ..PageRecord::new(CLASS_PAGE)
         };
-        page_record.write(self.bytes, page);
+        self.set_page(page, page_record);
         // The bitmap comes second: the larger classes keep it in the record.
-        let bitmap = bitmap_at(self.pages, page, class);
+        let bitmap = self.layout.bitmap_at(page, class);
         let chunk = class.own_chunks();
         set_word(self.bytes, bitmap, class.own_word() | FIRST_MARK >> chunk);
         for index in 1..class.bitmap_words() {
             set_word(self.bytes, bitmap_word_at(bitmap, index), 0);
         }
         record.first = page;
-        record.used += 1;
+        record.count_used();
         record.total += class.counted_chunks();
         Ok(page.offset(chunk << class.shift()))
     }
@@ -178,9 +203,9 @@ impl Pool<'_> {
             run: wanted,
             ..PageRecord::new(TAKEN_FIRST)
         };
-        first.write(self.bytes, page);
+        self.set_page(page, first);
         for index in 1..wanted {
-            PageRecord::new(TAKEN_INSIDE).write(self.bytes, page.plus(index));
+            self.set_page(page.plus(index), PageRecord::new(TAKEN_INSIDE));
         }
         Ok(page.offset(0))
     }
@@ -191,11 +216,11 @@ impl Pool<'_> {
         let mut header = Header::read(self.bytes);
         let mut page = header.first;
         // A sound list ends within as many steps as there are pages.
-        for _ in 0..self.pages {
+        for _ in 0..self.layout.pages {
             if page == PageNo::NONE {
                 return None;
             }
-            let run = PageRecord::read(self.bytes, page);
+            let run = self.page(page);
             if run.run < wanted {
                 page = run.next;
                 continue;
@@ -220,14 +245,14 @@ impl Pool<'_> {
         if within != chunk << class.shift() || chunk < class.own_chunks() {
             return Err(Refusal::NotAStart);
         }
-        let bitmap = bitmap_at(self.pages, page, class);
+        let bitmap = self.layout.bitmap_at(page, class);
         let at = bitmap_word_at(bitmap, (chunk / u64::BITS) as usize);
         let mark = FIRST_MARK >> (chunk % u64::BITS);
         let marks = word(self.bytes, at);
         if marks & mark == 0 {
             return Err(Refusal::NotTaken);
         }
-        let mut record = ClassRecord::read(self.bytes, class);
+        let mut record = self.class(class);
         if is_full(self.bytes, bitmap, class) {
             self.link_first(&mut record.first, page);
         }
@@ -238,7 +263,7 @@ impl Pool<'_> {
             self.unlink(&mut record.first, page);
             record.total = record.total.wrapping_sub(class.counted_chunks());
         }
-        record.write(self.bytes, class);
+        self.set_class(class, record);
         if unused {
             self.release(page, 1);
         }
@@ -251,34 +276,34 @@ impl Pool<'_> {
         let mut header = Header::read(self.bytes);
         let inside = PageRecord::new(FREE_INSIDE);
         for index in 0..length {
-            inside.write(self.bytes, page.plus(index));
+            self.set_page(page.plus(index), inside);
         }
         let mut first = page;
         let mut run = length;
 
         let after = page.plus(length);
-        if after.0 < self.pages {
-            let record = PageRecord::read(self.bytes, after);
+        if after.0 < self.layout.pages {
+            let record = self.page(after);
             if record.kind == FREE_FIRST {
                 self.unlink(&mut header.first, after);
-                inside.write(self.bytes, after);
+                self.set_page(after, inside);
                 run += record.run;
             }
         }
 
         if page.0 > 0 {
             let before = PageNo(page.0 - 1);
-            let record = PageRecord::read(self.bytes, before);
+            let record = self.page(before);
             let start = match record.kind {
                 FREE_FIRST => Some(before),
                 FREE_INSIDE => Some(record.previous),
                 _ => None,
             };
             if let Some(start) = start {
-                run += PageRecord::read(self.bytes, start).run;
+                run += self.page(start).run;
                 self.unlink(&mut header.first, start);
                 // No longer the last page of its run, so it points nowhere.
-                inside.write(self.bytes, before);
+                self.set_page(before, inside);
                 first = start;
             }
         }
@@ -304,28 +329,28 @@ impl Pool<'_> {
             previous,
             ..PageRecord::new(FREE_FIRST)
         };
-        record.write(self.bytes, first);
+        self.set_page(first, record);
         if length > 1 {
-            set_previous(self.bytes, first.plus(length - 1), first);
+            self.set_previous(first.plus(length - 1), first);
         }
     }
 
     /// Puts a page at the head of a list.
     fn link_first(&mut self, head: &mut PageNo, page: PageNo) {
         if *head != PageNo::NONE {
-            set_previous(self.bytes, *head, page);
+            self.set_previous(*head, page);
         }
-        set_next(self.bytes, page, *head);
-        set_previous(self.bytes, page, PageNo::NONE);
+        self.set_next(page, *head);
+        self.set_previous(page, PageNo::NONE);
         *head = page;
     }
 
     /// Takes a page off a list and clears its links.
     fn unlink(&mut self, head: &mut PageNo, page: PageNo) {
-        let record = PageRecord::read(self.bytes, page);
+        let record = self.page(page);
         self.relink(head, &record, record.next, record.previous);
-        set_next(self.bytes, page, PageNo::NONE);
-        set_previous(self.bytes, page, PageNo::NONE);
+        self.set_next(page, PageNo::NONE);
+        self.set_previous(page, PageNo::NONE);
     }
 
     /// Lets the page before `record` lead on to `forward`, and the page after
@@ -334,10 +359,10 @@ impl Pool<'_> {
         if record.previous == PageNo::NONE {
             *head = forward;
         } else {
-            set_next(self.bytes, record.previous, forward);
+            self.set_next(record.previous, forward);
         }
         if record.next != PageNo::NONE {
-            set_previous(self.bytes, record.next, back);
+            self.set_previous(record.next, back);
         }
     }
 }

@@ -1,16 +1,17 @@
-//! The eleven ways a call or a script line is refused.
+//! The twelve ways a call or a script line is refused.
 
 use std::fmt;
 
 /// Why a call was refused. No other refusals exist.
 #[derive(Clone, Copy, Debug, PartialEq, Eq)]
 pub enum Refusal {
-    /// Format: the slice holds no page.
+    /// Format: the slice holds no page of the edition.
     TooShort,
     /// Format: the slice holds more pages than a pool may have. Report: the
     /// image holds more than twelve.
     TooLong,
-    /// Alloc, free or batch: the pool's records are not sound.
+    /// Alloc, free or batch: the pool's records are not sound. Convert: the
+    /// source is no sound pool of edition 1. Format: there is no such edition.
     NotSound,
     /// Alloc: no free chunk and no free page, or no run long enough.
     NoRoom,
@@ -28,6 +29,8 @@ pub enum Refusal {
     NothingAsked,
     /// Batch: the list for answers is shorter than the requests.
     AnswersTooShort,
+    /// Convert: the target's length does not hold as many pages.
+    WrongLength,
 }
 
 impl Refusal {
@@ -45,6 +48,7 @@ impl Refusal {
             Refusal::ScriptTooLong => 9,
             Refusal::NothingAsked => 10,
             Refusal::AnswersTooShort => 11,
+            Refusal::WrongLength => 12,
         }
     }
 }
@@ -63,6 +67,7 @@ impl fmt::Display for Refusal {
             Refusal::ScriptTooLong => "script too long",
             Refusal::NothingAsked => "nothing asked",
             Refusal::AnswersTooShort => "answers too short",
+            Refusal::WrongLength => "wrong length",
         })
     }
 }

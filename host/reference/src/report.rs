@@ -1,7 +1,9 @@
 //! The report program: what the image of a pool holds, on paper.
 
 use crate::class::Class;
-use crate::layout::{ClassRecord, Header, PageNo, PageRecord, CLASS_PAGE, FREE_FIRST, TAKEN_FIRST};
+use crate::layout::{
+    ClassRecord, Edition, Layout, PageNo, PageRecord, CLASS_PAGE, FREE_FIRST, TAKEN_FIRST,
+};
 use crate::refusal::Refusal;
 use crate::validate::broken_rule;
 use crate::view::{live_blocks, Block};
@@ -14,17 +16,22 @@ pub fn report(image: &[u8]) -> Vec<u8> {
     if image.len() >= TOO_LONG {
         return format!("no {}\n", Refusal::TooLong.number()).into_bytes();
     }
+    // An image of another edition breaks rule 1 here, whatever follows in it.
+    let layout = Layout::of(image).ok();
+    let Some(layout) = layout.filter(|layout| layout.edition == Edition::One) else {
+        return b"1\n".to_vec();
+    };
     match broken_rule(image) {
-        0 => lines(image).concat().into_bytes(),
+        0 => lines(image, layout).concat().into_bytes(),
         rule => format!("{rule}\n").into_bytes(),
     }
 }
 
 /// The lines of a sound image.
-fn lines(image: &[u8]) -> Vec<String> {
-    let pages = Header::read(image).pages;
+fn lines(image: &[u8], layout: Layout) -> Vec<String> {
+    let pages = layout.pages;
     let records: Vec<PageRecord> = (0..pages)
-        .map(|page| PageRecord::read(image, PageNo(page)))
+        .map(|page| PageRecord::read(image, layout, PageNo(page)))
         .collect();
     let mut lines = vec![format!("pool {pages}\n")];
     lines.extend(Class::all().map(|class| {
@@ -34,7 +41,7 @@ fn lines(image: &[u8]) -> Vec<String> {
             reqs,
             fails,
             ..
-        } = ClassRecord::read(image, class);
+        } = ClassRecord::read(image, layout, class);
         let pages = records
             .iter()
             .filter(|record| record.kind == CLASS_PAGE && record.class == class.number())

@@ -1,6 +1,6 @@
 //! The script program: lines of takes and gives, served by a fresh pool.
 
-use crate::layout::{Header, PageNo, PageRecord, FREE_FIRST};
+use crate::layout::{Header, Layout, PageNo, PageRecord, FREE_FIRST};
 use crate::pool::{alloc, format, free};
 use crate::refusal::Refusal;
 use crate::view::Call;
@@ -8,7 +8,7 @@ use crate::view::Call;
 /// The longest script that is served, in bytes.
 const MAX_SCRIPT: usize = 12_288;
 
-/// Length of the script's pool: twelve pages.
+/// Length of the script's pool: twelve pages of edition 1.
 const POOL_BYTES: usize = 49_496;
 
 /// Serves a script and answers its whole printout.
@@ -25,7 +25,7 @@ fn serve(input: &[u8]) -> Result<String, Refusal> {
         return Err(Refusal::ScriptTooLong);
     }
     let mut pool = vec![0; POOL_BYTES];
-    let pages = format(&mut pool)?;
+    let pages = format(&mut pool, 1)?;
     let mut printout = format!("pool {pages}\n");
     for line in input.split_inclusive(|&byte| byte == b'\n') {
         let line = line.strip_suffix(b"\n").unwrap_or(line);
@@ -41,8 +41,9 @@ fn serve(input: &[u8]) -> Result<String, Refusal> {
         printout += &answer.unwrap_or_else(refused);
     }
     let free_pages = Header::read(&pool).free;
+    let layout = Layout::of(&pool)?;
     let runs = (0..pages)
-        .filter(|&page| PageRecord::read(&pool, PageNo(page)).kind == FREE_FIRST)
+        .filter(|&page| PageRecord::read(&pool, layout, PageNo(page)).kind == FREE_FIRST)
         .count();
     printout += &format!("free {free_pages} runs {runs}\n");
     Ok(printout)

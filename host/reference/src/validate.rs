@@ -5,8 +5,8 @@
 
 use crate::class::{Class, CLASSES};
 use crate::layout::{
-    bitmap_at, bitmap_word_at, page_count, word, ClassRecord, Header, PageNo, PageRecord,
-    CLASS_PAGE, FREE_FIRST, FREE_INSIDE, TAKEN_FIRST, TAKEN_INSIDE,
+    bitmap_word_at, word, ClassRecord, Header, Layout, PageNo, PageRecord, CLASS_PAGE, FREE_FIRST,
+    FREE_INSIDE, TAKEN_FIRST, TAKEN_INSIDE,
 };
 use crate::pool::is_full;
 
@@ -18,26 +18,26 @@ pub fn validate(bytes: &[u8]) -> bool {
 /// The number of the first rule of soundness, 1 to 6, that the slice breaks,
 /// or 0 when it is sound.
 pub fn broken_rule(bytes: &[u8]) -> u8 {
-    let Ok(pages) = page_count(bytes.len()) else {
+    let Ok(layout) = Layout::of(bytes) else {
         return 1;
     };
     let header = Header::read(bytes);
-    if header != Header::new(pages, header.free, header.first) {
+    if header != Header::new(layout, header.free, header.first) {
         return 1;
     }
-    let Some(census) = Census::take(bytes, pages) else {
+    let Some(census) = Census::take(bytes, layout) else {
         return 2;
     };
-    if !free_list_is_sound(bytes, pages, header.first, census.free_runs) {
+    if !free_list_is_sound(bytes, layout, header.first, census.free_runs) {
         return 3;
     }
     if census.full_page_linked {
         return 4;
     }
     for class in Class::all() {
-        let first = ClassRecord::read(bytes, class).first;
+        let first = ClassRecord::read(bytes, layout, class).first;
         let open = census.classes[class.index()].open;
-        if !class_list_is_sound(bytes, pages, class, first, open) {
+        if !class_list_is_sound(bytes, layout, class, first, open) {
             return 4;
         }
     }
@@ -48,10 +48,15 @@ pub fn broken_rule(bytes: &[u8]) -> u8 {
         return 6;
     }
     for class in Class::all() {
-        let record = ClassRecord::read(bytes, class);
+        let record = ClassRecord::read(bytes, layout, class);
         let counted = &census.classes[class.index()];
         if record.used != counted.used || record.total != counted.pages * class.counted_chunks() {
             return 6;
+        }
+        if let Some(peak) = record.peak {
+            if peak.most < record.used || peak.zeros != 0 {
+                return 6;
+            }
         }
     }
     0
@@ -65,7 +70,7 @@ pub fn broken_rule(bytes: &[u8]) -> u8 {
 /// holds each of them.
 fn list_is_sound(
     bytes: &[u8],
-    pages: u32,
+    layout: Layout,
     first: PageNo,
     length: u32,
     belongs: impl Fn(PageNo, &PageRecord) -> bool,
@@ -73,10 +78,10 @@ fn list_is_sound(
     let mut previous = PageNo::NONE;
     let mut page = first;
     for _ in 0..length {
-        if page.0 >= pages {
+        if page.0 >= layout.pages {
             return false;
         }
-        let record = PageRecord::read(bytes, page);
+        let record = PageRecord::read(bytes, layout, page);
         if record.previous != previous || !belongs(page, &record) {
             return false;
         }
@@ -86,17 +91,23 @@ fn list_is_sound(
     page == PageNo::NONE
 }
 
-fn free_list_is_sound(bytes: &[u8], pages: u32, first: PageNo, runs: u32) -> bool {
-    list_is_sound(bytes, pages, first, runs, |_, record| {
+fn free_list_is_sound(bytes: &[u8], layout: Layout, first: PageNo, runs: u32) -> bool {
+    list_is_sound(bytes, layout, first, runs, |_, record| {
         record.kind == FREE_FIRST
     })
 }
 
-fn class_list_is_sound(bytes: &[u8], pages: u32, class: Class, first: PageNo, open: u32) -> bool {
-    list_is_sound(bytes, pages, first, open, |page, record| {
+fn class_list_is_sound(
+    bytes: &[u8],
+    layout: Layout,
+    class: Class,
+    first: PageNo,
+    open: u32,
+) -> bool {
+    list_is_sound(bytes, layout, first, open, |page, record| {
         record.kind == CLASS_PAGE
             && record.class == class.number()
-            && !is_full(bytes, bitmap_at(pages, page, class), class)
+            && !is_full(bytes, layout.bitmap_at(page, class), class)
     })
 }
 
@@ -122,18 +133,18 @@ struct Census {
 
 impl Census {
     /// Walks the pages run by run; `None` when rule 2 is broken.
-    fn take(bytes: &[u8], pages: u32) -> Option<Census> {
+    fn take(bytes: &[u8], layout: Layout) -> Option<Census> {
         let mut census = Census::default();
         let mut page = PageNo(0);
         let mut after_free_run = false;
-        while page.0 < pages {
-            let record = PageRecord::read(bytes, page);
+        while page.0 < layout.pages {
+            let record = PageRecord::read(bytes, layout, page);
             let length = match record.kind {
                 FREE_FIRST if !after_free_run => {
-                    census.add_free_run(bytes, pages, page, &record)?
+                    census.add_free_run(bytes, layout, page, &record)?
                 }
-                TAKEN_FIRST => taken_run(bytes, pages, page, &record)?,
-                CLASS_PAGE => census.add_class_page(bytes, pages, page, &record)?,
+                TAKEN_FIRST => taken_run(bytes, layout, page, &record)?,
+                CLASS_PAGE => census.add_class_page(bytes, layout, page, &record)?,
                 // Inside a run that has no first page, a free run that touches
                 // another, or no kind at all.
                 _ => return None,
@@ -147,7 +158,7 @@ impl Census {
     fn add_free_run(
         &mut self,
         bytes: &[u8],
-        pages: u32,
+        layout: Layout,
         page: PageNo,
         record: &PageRecord,
     ) -> Option<u32> {
@@ -162,11 +173,11 @@ impl Census {
             previous: page,
             ..inside
         };
-        check(*record == expected && fits(pages, page, record.run))?;
+        check(*record == expected && fits(layout, page, record.run))?;
         for index in 1..record.run {
             let is_last = index == record.run - 1;
             let expected = if is_last { last } else { inside };
-            check(PageRecord::read(bytes, page.plus(index)) == expected)?;
+            check(PageRecord::read(bytes, layout, page.plus(index)) == expected)?;
         }
         self.free_runs += 1;
         self.free_pages += record.run;
@@ -176,7 +187,7 @@ impl Census {
     fn add_class_page(
         &mut self,
         bytes: &[u8],
-        pages: u32,
+        layout: Layout,
         page: PageNo,
         record: &PageRecord,
     ) -> Option<u32> {
@@ -192,7 +203,7 @@ impl Census {
             previous: record.previous,
             ..PageRecord::new(CLASS_PAGE)
         };
-        let bitmap = bitmap_at(pages, page, class);
+        let bitmap = layout.bitmap_at(page, class);
         let own = class.own_word();
         check(*record == expected && word(bytes, bitmap) & own == own)?;
 
@@ -216,22 +227,22 @@ impl Census {
 }
 
 /// The length of the taken run that begins at `page`, if its records are right.
-fn taken_run(bytes: &[u8], pages: u32, page: PageNo, record: &PageRecord) -> Option<u32> {
+fn taken_run(bytes: &[u8], layout: Layout, page: PageNo, record: &PageRecord) -> Option<u32> {
     let expected = PageRecord {
         run: record.run,
         ..PageRecord::new(TAKEN_FIRST)
     };
     let inside = PageRecord::new(TAKEN_INSIDE);
-    check(*record == expected && fits(pages, page, record.run))?;
+    check(*record == expected && fits(layout, page, record.run))?;
     for index in 1..record.run {
-        check(PageRecord::read(bytes, page.plus(index)) == inside)?;
+        check(PageRecord::read(bytes, layout, page.plus(index)) == inside)?;
     }
     Some(record.run)
 }
 
 /// Whether a run of this length can begin at `page`.
-fn fits(pages: u32, page: PageNo, run: u32) -> bool {
-    1 <= run && run <= pages - page.0
+fn fits(layout: Layout, page: PageNo, run: u32) -> bool {
+    1 <= run && run <= layout.pages - page.0
 }
 
 fn check(holds: bool) -> Option<()> {

@@ -3,15 +3,16 @@
 //! [`LiveSet`] holds the page count and the live blocks, fed only by the
 //! arguments and answers of calls. From it alone follow the expected [`View`]
 //! and the ruling on any next call. [`shown`] reads the same view out of a
-//! pool's records, so that tests can compare the two.
+//! pool's records, so that tests can compare the two. The view is that of both
+//! editions; [`Peaks`] follows what edition 2 shows beside it.
 
 use std::collections::BTreeMap;
 use std::fmt;
 
 use crate::class::{need, Class, Need, CLASSES};
 use crate::layout::{
-    bitmap_at, bitmap_word_at, page_count, word, ClassRecord, Offset, PageNo, PageRecord,
-    CLASS_PAGE, FREE_FIRST, PAGE_SIZE, TAKEN_FIRST,
+    bitmap_word_at, word, ClassRecord, Layout, Offset, PageNo, PageRecord, CLASS_PAGE, FREE_FIRST,
+    PAGE_SIZE, TAKEN_FIRST,
 };
 use crate::refusal::Refusal;
 use crate::validate::validate;
@@ -137,6 +138,17 @@ impl LiveSet {
         &self.blocks
     }
 
+    /// The live chunks of each class.
+    pub fn used(&self) -> [u32; CLASSES] {
+        let mut used = [0; CLASSES];
+        for block in self.blocks.values() {
+            if let Block::Chunk(class) = block {
+                used[class.index()] += 1;
+            }
+        }
+        used
+    }
+
     /// Notes the answer to `Alloc(size)`. A contradiction is not entered.
     pub fn record_alloc(
         &mut self,
@@ -187,7 +199,6 @@ impl LiveSet {
         let pages = self.pages as usize;
         let mut classes = vec![None; pages];
         let mut bitmaps = vec![None; pages];
-        let mut used = [0; CLASSES];
         let mut taken = vec![false; pages];
         for (&offset, &block) in &self.blocks {
             let offset = Offset(offset);
@@ -196,7 +207,6 @@ impl LiveSet {
                 Block::Chunk(class) => {
                     taken[page] = true;
                     classes[page] = Some(class);
-                    used[class.index()] += 1;
                     let bitmap = bitmaps[page].get_or_insert_with(|| own_bitmap(class));
                     // A block off the boundaries begins at no chunk.
                     if let Some(chunk) = chunk_at(class, offset.within()) {
@@ -221,7 +231,7 @@ impl LiveSet {
             free_runs,
             classes,
             bitmaps,
-            used,
+            used: self.used(),
             total,
         }
     }
@@ -268,6 +278,31 @@ impl LiveSet {
     }
 }
 
+/// The largest used of each class after any call so far, known from the live
+/// blocks after each of them.
+#[derive(Clone, Copy, Debug, PartialEq, Eq)]
+pub struct Peaks([u32; CLASSES]);
+
+impl Peaks {
+    /// The history that starts here: after format or a conversion with the
+    /// chunks that are live, on any other sound pool with what it shows.
+    pub fn new(start: [u32; CLASSES]) -> Peaks {
+        Peaks(start)
+    }
+
+    /// Notes the live blocks after a call, granted or refused.
+    pub fn note(&mut self, live: &LiveSet) {
+        for (peak, used) in self.0.iter_mut().zip(live.used()) {
+            *peak = used.max(*peak);
+        }
+    }
+
+    /// The peaks by class.
+    pub fn by_class(self) -> [u32; CLASSES] {
+        self.0
+    }
+}
+
 /// The chunk that begins at this place in a page of the class, if one does.
 fn chunk_at(class: Class, within: u32) -> Option<u32> {
     let chunk = within / class.chunk_size();
@@ -292,9 +327,9 @@ fn own_bitmap(class: Class) -> Bitmap {
 }
 
 /// The view that a pool's records show, read as they stand, or `None` when the
-/// slice's length holds no pool.
+/// slice's edition and length hold no pool.
 pub fn shown(bytes: &[u8]) -> Option<View> {
-    let pages = page_count(bytes.len()).ok()?;
+    let layout = Layout::of(bytes).ok()?;
     let mut view = View {
         free_runs: Vec::new(),
         classes: Vec::new(),
@@ -302,40 +337,52 @@ pub fn shown(bytes: &[u8]) -> Option<View> {
         used: [0; CLASSES],
         total: [0; CLASSES],
     };
-    for page in 0..pages {
-        let record = PageRecord::read(bytes, PageNo(page));
+    for page in 0..layout.pages {
+        let record = PageRecord::read(bytes, layout, PageNo(page));
         if record.kind == FREE_FIRST {
             view.free_runs.push((page, record.run));
         }
         let class = Class::new(record.class).filter(|_| record.kind == CLASS_PAGE);
         view.classes.push(class);
         view.bitmaps
-            .push(class.map(|class| read_bitmap(bytes, pages, PageNo(page), class)));
+            .push(class.map(|class| read_bitmap(bytes, layout, PageNo(page), class)));
     }
     for class in Class::all() {
-        let record = ClassRecord::read(bytes, class);
+        let record = ClassRecord::read(bytes, layout, class);
         view.used[class.index()] = record.used;
         view.total[class.index()] = record.total;
     }
     Some(view)
 }
 
+/// The peaks that a pool's records show, by class, read as they stand, or `None`
+/// where they show none: in edition 1, or in no pool.
+pub fn peaks(bytes: &[u8]) -> Option<[u32; CLASSES]> {
+    let layout = Layout::of(bytes).ok()?;
+    let mut peaks = [0; CLASSES];
+    for class in Class::all() {
+        let record = ClassRecord::read(bytes, layout, class);
+        peaks[class.index()] = record.peak?.most;
+    }
+    Some(peaks)
+}
+
 /// The live blocks of a sound pool read by itself, by offset, or `None` when
 /// it is not sound.
 pub fn live_blocks(bytes: &[u8]) -> Option<BTreeMap<u32, Block>> {
-    let pages = page_count(bytes.len()).ok()?;
+    let layout = Layout::of(bytes).ok()?;
     if !validate(bytes) {
         return None;
     }
     let mut blocks = BTreeMap::new();
-    for page in (0..pages).map(PageNo) {
-        let record = PageRecord::read(bytes, page);
+    for page in (0..layout.pages).map(PageNo) {
+        let record = PageRecord::read(bytes, layout, page);
         match (record.kind, Class::new(record.class)) {
             (TAKEN_FIRST, _) => {
                 blocks.insert(page.offset(0).0, Block::Run(record.run));
             }
             (CLASS_PAGE, Some(class)) => {
-                let mut bitmap = read_bitmap(bytes, pages, page, class);
+                let mut bitmap = read_bitmap(bytes, layout, page, class);
                 for chunk in class.own_chunks()..class.chunks() {
                     if *mark_word(&mut bitmap, chunk) & mark(chunk) != 0 {
                         let offset = page.offset(chunk * class.chunk_size());
@@ -349,8 +396,8 @@ pub fn live_blocks(bytes: &[u8]) -> Option<BTreeMap<u32, Block>> {
     Some(blocks)
 }
 
-fn read_bitmap(bytes: &[u8], pages: u32, page: PageNo, class: Class) -> Bitmap {
-    let at = bitmap_at(pages, page, class);
+fn read_bitmap(bytes: &[u8], layout: Layout, page: PageNo, class: Class) -> Bitmap {
+    let at = layout.bitmap_at(page, class);
     let mut bitmap = Bitmap::default();
     for (index, place) in bitmap.iter_mut().enumerate().take(class.bitmap_words()) {
         *place = word(bytes, bitmap_word_at(at, index));

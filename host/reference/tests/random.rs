@@ -3,15 +3,15 @@
 //! expects, which is fed by arguments and answers alone.
 
 use reference::{
-    alloc, alloc_sound, format, free, free_sound, live_blocks, shown, validate, Block, Call,
-    LiveSet, View,
+    alloc, alloc_sound, convert, format, free, free_sound, live_blocks, peaks, shown, validate,
+    Block, Call, LiveSet, Peaks, View,
 };
 
 #[path = "support/plain.rs"]
 mod plain;
 
 use plain::Plain;
-use support::{callers_bytes, length, page_at, Habit, Rng, PAGE, PER_PAGE};
+use support::{Edition, Habit, Rng, EDITIONS, ONE, PAGE, PER_PAGE, TWO};
 
 /// Where code runs slowly, fewer calls have to do.
 const SLOWNESS: u32 = if cfg!(debug_assertions) { 10 } else { 1 };
@@ -21,37 +21,43 @@ const MAP_BYTES: [usize; 9] = [64, 32, 16, 0, 0, 0, 0, 0, 0];
 
 struct Trial {
     rng: Rng,
+    edition: Edition,
     pages: usize,
     pool: Vec<u8>,
     plain: Plain,
     live: LiveSet,
     /// What the live set expects now.
     view: View,
+    /// What the live sets so far expect, of edition 2.
+    peaks: Peaks,
     last_freed: u32,
     granted: [u32; 2],
-    refused: [u32; 11],
+    refused: [u32; 13],
 }
 
 impl Trial {
-    fn new(seed: u64, pages: usize) -> Trial {
+    fn new(seed: u64, edition: Edition, pages: usize) -> Trial {
         let mut rng = Rng::new(seed);
         let tail = rng.below(PER_PAGE as u64) as usize;
-        let mut pool = rng.bytes(length(pages) + tail);
-        assert_eq!(format(&mut pool), Ok(pages as u32));
+        let mut pool = rng.bytes(edition.length(pages) + tail);
+        assert_eq!(format(&mut pool, edition.number), Ok(pages as u32));
         let live = LiveSet::new(pages as u32);
         let view = live.expected();
         let trial = Trial {
             rng,
+            edition,
             pages,
             pool,
-            plain: Plain::new(pages),
+            plain: Plain::new(edition.number, pages),
             live,
             view,
+            peaks: Peaks::new([0; 9]),
             last_freed: 0,
             granted: [0; 2],
-            refused: [0; 11],
+            refused: [0; 13],
         };
-        assert!(trial.pool[..page_at(pages, 0)] == trial.plain.records());
+        assert!(trial.pool[..edition.page_at(pages, 0)] == trial.plain.records());
+        assert_eq!(trial.shown_peaks(), trial.peaks.by_class());
         trial
     }
 
@@ -62,10 +68,19 @@ impl Trial {
         for _ in 0..if self.rng.once_in(50) { self.pages } else { 2 } {
             let page = self.rng.below(self.pages as u64) as usize;
             let map = self.view.classes[page].map_or(0, |class| MAP_BYTES[class.index()]);
-            let bytes = callers_bytes(self.pages, page, map);
+            let bytes = self.edition.callers_bytes(self.pages, page, map);
             self.rng.fill(&mut self.pool[bytes]);
         }
-        self.rng.fill(&mut self.pool[length(self.pages)..]);
+        let tail = self.edition.length(self.pages);
+        self.rng.fill(&mut self.pool[tail..]);
+    }
+
+    /// The peaks that the pool shows; where its edition has none, those that
+    /// are due.
+    fn shown_peaks(&self) -> [u32; 9] {
+        let shown = peaks(&self.pool);
+        assert_eq!(shown.is_some(), self.edition == TWO);
+        shown.unwrap_or(self.peaks.by_class())
     }
 
     fn live_offset(&mut self) -> Option<u32> {
@@ -125,7 +140,7 @@ impl Trial {
                     if let Some(Block::Chunk(class)) = block {
                         if MAP_BYTES[class.index()] > 0 {
                             let chunk = offset as usize % PAGE / class.chunk_size() as usize;
-                            let map = page_at(self.pages, offset as usize / PAGE);
+                            let map = self.page_at(offset as usize / PAGE);
                             expected_pool[map + chunk / 8] &= !(0x80 >> (chunk % 8));
                         }
                     }
@@ -139,9 +154,9 @@ impl Trial {
             None => self.granted[usize::from(matches!(call, Call::Free(_)))] += 1,
         }
 
-        expected_pool[..page_at(self.pages, 0)].copy_from_slice(&self.plain.records());
+        expected_pool[..self.page_at(0)].copy_from_slice(&self.plain.records());
         for (page, map) in self.plain.maps_in_pages() {
-            let at = page_at(self.pages, page);
+            let at = self.page_at(page);
             expected_pool[at..at + map.len()].copy_from_slice(&map);
         }
         assert!(self.pool == expected_pool, "{call:?}");
@@ -151,6 +166,25 @@ impl Trial {
         assert_eq!(shown(&self.pool).as_ref(), Some(&self.view), "{call:?}");
         let read = live_blocks(&self.pool);
         assert_eq!(read.as_ref(), Some(self.live.blocks()), "{call:?}");
+        self.peaks.note(&self.live);
+        assert_eq!(self.shown_peaks(), self.peaks.by_class(), "{call:?}");
+    }
+
+    fn page_at(&self, page: usize) -> usize {
+        self.edition.page_at(self.pages, page)
+    }
+
+    /// Goes on in edition 2, where the history for peak starts anew.
+    fn convert(&mut self) {
+        let mut target = self.rng.bytes(TWO.length(self.pages) + 100);
+        assert_eq!(convert(&self.pool, &mut target), Ok(self.pages as u32));
+        self.pool = target;
+        self.edition = TWO;
+        self.plain.convert();
+        assert!(self.pool[..self.page_at(0)] == self.plain.records());
+        self.peaks = Peaks::new(self.live.used());
+        assert_eq!(self.shown_peaks(), self.peaks.by_class());
+        assert_eq!(shown(&self.pool).as_ref(), Some(&self.view));
     }
 
     /// Gives everything back; what remains is one free run.
@@ -165,9 +199,9 @@ impl Trial {
 #[test]
 fn every_page_count() {
     let mut granted = [0; 2];
-    let mut refused = [0; 11];
+    let mut refused = [0; 13];
     for pages in 1..=256 {
-        let mut trial = Trial::new(pages as u64, pages);
+        let mut trial = Trial::new(pages as u64, EDITIONS[pages % 2], pages);
         for _ in 0..3 {
             let habit = Habit::any(&mut trial.rng);
             for _ in 0..100 / SLOWNESS {
@@ -192,11 +226,14 @@ fn small_pools_fill_and_empty() {
     for seed in 1_000..1_024 {
         let mut rng = Rng::new(seed);
         let pages = 1 + rng.below(12) as usize;
-        let mut trial = Trial::new(seed, pages);
-        for _ in 0..6 {
+        let mut trial = Trial::new(seed, rng.pick(&EDITIONS), pages);
+        for phase in 0..6 {
             let habit = Habit::any(&mut rng);
             for _ in 0..400 / SLOWNESS {
                 trial.step(habit);
+            }
+            if phase == 2 && trial.edition == ONE {
+                trial.convert();
             }
         }
         trial.empty();
@@ -205,9 +242,9 @@ fn small_pools_fill_and_empty() {
 
 #[test]
 fn one_class_fills_the_pool() {
-    for class in 0..9 {
+    for (class, edition) in (0..9).flat_map(|class| EDITIONS.map(|edition| (class, edition))) {
         let size = 8 << class;
-        let mut trial = Trial::new(2_000 + class, 3);
+        let mut trial = Trial::new(2_000 + class, edition, 3);
         loop {
             trial.serve(Call::Alloc(size));
             if trial.refused[4] > 0 {
@@ -229,16 +266,18 @@ fn one_class_fills_the_pool() {
 
 #[test]
 fn a_large_pool_in_pieces() {
-    let mut trial = Trial::new(3_000, 256);
-    for phase in 0..6 {
-        let habit = Habit {
-            favourite: [4_096, 64, 8_192, 2_048, 8, 4_096][phase],
-            allocs: [15, 8, 6, 12, 12, 5][phase],
-        };
-        for _ in 0..1_500 / SLOWNESS {
-            trial.step(habit);
+    for edition in EDITIONS {
+        let mut trial = Trial::new(3_000, edition, 256);
+        for phase in 0..6 {
+            let habit = Habit {
+                favourite: [4_096, 64, 8_192, 2_048, 8, 4_096][phase],
+                allocs: [15, 8, 6, 12, 12, 5][phase],
+            };
+            for _ in 0..1_000 / SLOWNESS {
+                trial.step(habit);
+            }
         }
+        assert!(trial.refused[4] > 0, "the pool never filled");
+        trial.empty();
     }
-    assert!(trial.refused[4] > 0, "the pool never filled");
-    trial.empty();
 }

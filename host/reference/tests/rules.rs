@@ -1,7 +1,8 @@
 //! Damaged pools and the first rule that each breaks.
 
 use reference::{
-    alloc, alloc_sound, broken_rule, format, free, free_sound, live_blocks, validate, Refusal,
+    alloc, alloc_sound, broken_rule, convert, format, free, free_sound, live_blocks, validate,
+    Refusal,
 };
 
 #[path = "support/bits.rs"]
@@ -10,10 +11,10 @@ mod bits;
 mod literal;
 
 use bits::{
-    class_record, page_record, set, CLASS, CLASS_FIRST, EDITION, FAILS, FIRST, FREE, KIND, MAP,
-    MIN_SHIFT, NEXT, PAGES, PAGE_SHIFT, PREVIOUS, REQS, RUN, TOTAL, USED, ZEROS,
+    set, CLASS, CLASS_FIRST, EDITION, FAILS, FIRST, FREE, KIND, MAP, MIN_SHIFT, NEXT, PAGES,
+    PAGE_SHIFT, PEAK, PEAK_ZEROS, PREVIOUS, REQS, RUN, TOTAL, USED, ZEROS,
 };
-use support::{length, page_at, Rng, HEAD, LONGEST, PER_PAGE, SHORTEST};
+use support::{Edition, Rng, EDITIONS, ONE, PER_PAGE, TWO};
 
 const NONE: u64 = 65_535;
 
@@ -33,12 +34,15 @@ const HEADER_FIELDS: [(usize, usize); 6] = [
     (FIRST, 16),
 ];
 
-const CLASS_FIELDS: [(usize, usize); 5] = [
+/// The last two in edition 2 alone.
+const CLASS_FIELDS: [(usize, usize); 7] = [
     (CLASS_FIRST, 16),
     (USED, 24),
     (TOTAL, 24),
     (REQS, 32),
     (FAILS, 32),
+    (PEAK, 24),
+    (PEAK_ZEROS, 40),
 ];
 
 const PAGE_FIELDS: [(usize, usize); 7] = [
@@ -51,15 +55,52 @@ const PAGE_FIELDS: [(usize, usize); 7] = [
     (ZEROS, 9),
 ];
 
+/// A record of a pool.
+#[derive(Clone, Copy, Debug)]
+enum Record {
+    Header,
+    Class(usize),
+    Page(usize),
+}
+
+use Record::{Class, Header, Page};
+
+impl Record {
+    /// The bit at which it begins.
+    fn at(self, edition: Edition) -> usize {
+        match self {
+            Header => 0,
+            Class(class) => bits::class_record(edition, class),
+            Page(page) => bits::page_record(edition, page),
+        }
+    }
+
+    /// Its fields: the bits before each, and its width.
+    fn fields(self, edition: Edition) -> &'static [(usize, usize)] {
+        match self {
+            Header => &HEADER_FIELDS,
+            Class(_) if edition == ONE => &CLASS_FIELDS[..5],
+            Class(_) => &CLASS_FIELDS,
+            Page(_) => &PAGE_FIELDS,
+        }
+    }
+}
+
+/// Puts a number into a field of a pool that still has its edition.
+fn put(bytes: &mut [u8], record: Record, above: usize, width: usize, number: u64) {
+    let edition = EDITIONS[usize::from(bytes[0]) - 1];
+    set(bytes, record.at(edition) + above, width, number);
+}
+
 /// Sixteen pages with something of every kind:
 ///
 /// - 0: class 8, one chunk; 1: class 64, one chunk; 2 and 3: a taken run;
 /// - 4: class 2,048, full; 5 and 6: class 1,024, listed in this order;
 /// - 7: a free run of one; 8: a taken run of one; 9 to 15: a free run. The
 ///   free-run list is 7, then 9.
-fn fixture() -> Vec<u8> {
-    let mut bytes = vec![0xA5; length(16) + 9];
-    assert_eq!(format(&mut bytes), Ok(16));
+fn fixture(edition: Edition) -> Vec<u8> {
+    let mut bytes = vec![0xA5; edition.length(16) + 9];
+    assert_eq!(format(&mut bytes, edition.number), Ok(16));
     for size in [
         8, 64, 5_000, 2_048, 2_048, 1_024, 1_024, 1_024, 1_024, 1_024,
     ] {
@@ -92,53 +133,93 @@ fn assert_breaks(bytes: &mut [u8], rule: u8, what: &str) {
     }
 }
 
-/// Each number put into the field makes the fixture break the rule first.
-fn breaks(rule: u8, record: usize, above: usize, width: usize, numbers: &[u64]) {
+/// Each number put into the field makes the fixture break the rule first, in
+/// both editions.
+fn breaks(rule: u8, record: Record, above: usize, width: usize, numbers: &[u64]) {
+    for edition in EDITIONS {
+        breaks_in(edition, rule, record, above, width, numbers);
+    }
+}
+
+fn breaks_in(
+    edition: Edition,
+    rule: u8,
+    record: Record,
+    above: usize,
+    width: usize,
+    numbers: &[u64],
+) {
     for number in numbers {
-        let mut bytes = fixture();
-        set(&mut bytes, record + above, width, *number);
-        let what = format!("bit {record} + {above}: {number}");
+        let mut bytes = fixture(edition);
+        put(&mut bytes, record, above, width, *number);
+        let what = format!(
+            "edition {}, {record:?}, bit {above}: {number}",
+            edition.number
+        );
         assert_breaks(&mut bytes, rule, &what);
     }
 }
 
 #[test]
 fn lengths() {
-    let ends = [HEAD - 1, HEAD, SHORTEST - 1, LONGEST + 1];
-    for length in [0, 1, 7, 8, 1_100_000].into_iter().chain(ends) {
-        assert_breaks(&mut vec![0; length], 1, &format!("{length} zeros"));
-        assert_breaks(&mut vec![0xFF; length], 1, &format!("{length} ones"));
-    }
-    // A tail of up to a page record and a page changes nothing; less than the
-    // last page, or room for one more, does.
-    let longest = PER_PAGE - 1;
-    for (pages, tail) in [(1, 0), (1, longest), (2, 1), (16, longest), (256, longest)] {
-        let mut bytes = vec![3; length(pages) + tail];
-        format(&mut bytes).unwrap();
-        assert_breaks(&mut bytes, 0, "fresh");
-        let whole = bytes.len() - tail;
-        assert_breaks(&mut bytes[..whole], 0, "without its tail");
-        assert_breaks(&mut bytes[..whole - 1], 1, "cut short");
-        bytes.resize(whole + PER_PAGE, 3);
-        assert_breaks(&mut bytes, 1, "one page longer");
+    for edition in EDITIONS {
+        let (head, first) = (edition.head(), edition.number);
+        let ends = [
+            head - 1,
+            head,
+            edition.shortest() - 1,
+            edition.longest() + 1,
+        ];
+        for length in [0, 1, 7, 8, 1_100_000].into_iter().chain(ends) {
+            for fill in [0, first, 0xFF] {
+                let what = format!("{length} bytes of {fill}");
+                assert_breaks(&mut vec![fill; length], 1, &what);
+            }
+        }
+        // A tail of up to a page record and a page changes nothing; less than the
+        // last page, or room for one more, does.
+        let longest = PER_PAGE - 1;
+        let tails = [
+            (1, 0),
+            (1, longest),
+            (2, 1),
+            (16, longest),
+            (4_096, longest),
+        ];
+        for (pages, tail) in tails {
+            let mut bytes = vec![3; edition.length(pages) + tail];
+            format(&mut bytes, edition.number).unwrap();
+            assert_breaks(&mut bytes, 0, "fresh");
+            let whole = bytes.len() - tail;
+            assert_breaks(&mut bytes[..whole], 0, "without its tail");
+            assert_breaks(&mut bytes[..whole - 1], 1, "cut short");
+            bytes.resize(whole + PER_PAGE, 3);
+            assert_breaks(&mut bytes, 1, "one page longer");
+        }
     }
 }
 
 #[test]
 fn bytes_that_are_no_pool() {
     let mut rng = Rng::new(1);
-    for pages in [1, 2, 12, 256] {
-        let length = length(pages);
-        assert_breaks(&mut vec![0; length], 1, "zeros");
-        assert_breaks(&mut vec![0xFF; length], 1, "ones");
-        let mut bytes = vec![0; length];
-        rng.fill(&mut bytes);
+    for (edition, pages) in EDITIONS
+        .into_iter()
+        .flat_map(|e| [1, 2, 12, 256].map(|p| (e, p)))
+    {
+        let length = edition.length(pages);
+        for fill in [0, 1, 2, 0xFF] {
+            assert_breaks(&mut vec![fill; length], 1, "all the same");
+        }
+        let mut bytes = rng.bytes(length);
         assert_breaks(&mut bytes, 1, "random bytes");
+        bytes[0] = edition.number;
+        assert_breaks(&mut bytes, 1, "random bytes after the edition");
         // Behind a good header.
         for fill in [0, 0xFF] {
             let mut bytes = vec![fill; length];
-            let header = 0x013C << 48 | (pages as u64) << 32 | NONE;
+            let header = 0x3C << 48 | (pages as u64) << 32 | NONE;
             bytes[..8].copy_from_slice(&header.to_be_bytes());
+            bytes[0] = edition.number;
             assert_breaks(&mut bytes, 2, "header alone");
         }
     }
@@ -146,15 +227,15 @@ fn bytes_that_are_no_pool() {
 
 #[test]
 fn header() {
-    breaks(1, 0, EDITION, 8, &[0, 2, 129, 255]);
-    breaks(1, 0, MIN_SHIFT, 4, &[0, 2, 4, 15]);
-    breaks(1, 0, PAGE_SHIFT, 4, &[0, 11, 13, 15]);
-    breaks(1, 0, PAGES, 16, &[0, 15, 17, 256, 272, NONE]);
-    breaks(6, 0, FREE, 16, &[0, 7, 9, 16, NONE]);
+    breaks(1, Header, EDITION, 8, &[0, 3, 129, 255]);
+    breaks(1, Header, MIN_SHIFT, 4, &[0, 2, 4, 15]);
+    breaks(1, Header, PAGE_SHIFT, 4, &[0, 11, 13, 15]);
+    breaks(1, Header, PAGES, 16, &[0, 15, 17, 256, 272, NONE]);
+    breaks(6, Header, FREE, 16, &[0, 7, 9, 16, NONE]);
     // Past the head, no head, a taken page, a class page, inside a run, no page.
     breaks(
         3,
-        0,
+        Header,
         FIRST,
         16,
         &[9, NONE, 8, 0, 5, 10, 15, 16, 17, 256, 65_534],
@@ -166,190 +247,207 @@ fn class_records() {
     // Past the head, no head, another class's page, a full page of another
     // class, a free page, a taken page, no page.
     let not_its_head = [6, NONE, 0, 1, 4, 7, 8, 2, 16, 17, 65_534];
-    breaks(4, class_record(7), CLASS_FIRST, 16, &not_its_head);
+    breaks(4, Class(7), CLASS_FIRST, 16, &not_its_head);
     // A full page on a list.
-    breaks(4, class_record(8), CLASS_FIRST, 16, &[4, 5, 16]);
+    breaks(4, Class(8), CLASS_FIRST, 16, &[4, 5, 16]);
     // A list without pages, and one that two classes share.
-    breaks(4, class_record(1), CLASS_FIRST, 16, &[0, 5, 7, 16, 65_534]);
+    breaks(4, Class(1), CLASS_FIRST, 16, &[0, 5, 7, 16, 65_534]);
 
-    breaks(6, class_record(7), USED, 24, &[0, 3, 5, 0xFF_FFFF]);
-    breaks(6, class_record(7), TOTAL, 24, &[0, 4, 7, 9, 0xFF_FFFF]);
-    breaks(6, class_record(0), USED, 24, &[0, 2, 9]);
-    breaks(6, class_record(0), TOTAL, 24, &[0, 503, 505, 512]);
-    breaks(6, class_record(1), USED, 24, &[1]);
-    breaks(6, class_record(1), TOTAL, 24, &[1, 254]);
+    breaks(6, Class(7), USED, 24, &[0, 3, 5, 0xFF_FFFF]);
+    breaks(6, Class(7), TOTAL, 24, &[0, 4, 7, 9, 0xFF_FFFF]);
+    breaks(6, Class(0), USED, 24, &[0, 2, 9]);
+    breaks(6, Class(0), TOTAL, 24, &[0, 503, 505, 512]);
+    breaks(6, Class(1), USED, 24, &[1]);
+    breaks(6, Class(1), TOTAL, 24, &[1, 254]);
     for class in 0..9 {
-        breaks(0, class_record(class), REQS, 32, &[0, 77, 0xFFFF_FFFF]);
-        breaks(0, class_record(class), FAILS, 32, &[0, 77, 0xFFFF_FFFF]);
+        breaks(0, Class(class), REQS, 32, &[0, 77, 0xFFFF_FFFF]);
+        breaks(0, Class(class), FAILS, 32, &[0, 77, 0xFFFF_FFFF]);
     }
+}
+
+/// Peak is at least used, which is 4 in class 7, 1 in class 0 and 0 in class 1,
+/// and the 40 bits behind it are 0.
+#[test]
+fn peaks() {
+    breaks_in(TWO, 0, Class(7), PEAK, 24, &[4, 5, 6, 100, 0xFF_FFFF]);
+    breaks_in(TWO, 6, Class(7), PEAK, 24, &[0, 1, 2, 3]);
+    breaks_in(TWO, 0, Class(0), PEAK, 24, &[1, 2, 504, 0xFF_FFFF]);
+    breaks_in(TWO, 6, Class(0), PEAK, 24, &[0]);
+    breaks_in(TWO, 0, Class(1), PEAK, 24, &[0, 1, 0xFF_FFFF]);
+    let mut bits: Vec<u64> = (0..40).map(|bit| 1 << bit).collect();
+    bits.push(0xFF_FFFF_FFFF);
+    for class in 0..9 {
+        breaks_in(TWO, 6, Class(class), PEAK_ZEROS, 40, &bits);
+    }
+    // Rules of a lower number come first.
+    let mut bytes = fixture(TWO);
+    put(&mut bytes, Class(7), PEAK, 24, 0);
+    put(&mut bytes, Page(1), MAP, 64, 0);
+    assert_breaks(&mut bytes, 5, "empty page");
 }
 
 #[test]
 fn kinds() {
     for page in [0, 1, 2, 3, 4, 5, 7, 9, 10, 15] {
-        breaks(2, page_record(page), KIND, 3, &[5, 6, 7]);
+        breaks(2, Page(page), KIND, 3, &[5, 6, 7]);
     }
-    breaks(2, page_record(0), KIND, 3, &[0, 1, 3, 4]);
-    breaks(2, page_record(2), KIND, 3, &[0, 1, 2, 4]);
-    breaks(2, page_record(3), KIND, 3, &[0, 1, 2, 3]);
-    breaks(2, page_record(7), KIND, 3, &[0, 2, 4]);
-    breaks(2, page_record(9), KIND, 3, &[0, 2, 3, 4]);
-    breaks(2, page_record(10), KIND, 3, &[1, 2, 3, 4]);
-    breaks(2, page_record(15), KIND, 3, &[1, 2, 3, 4]);
+    breaks(2, Page(0), KIND, 3, &[0, 1, 3, 4]);
+    breaks(2, Page(2), KIND, 3, &[0, 1, 2, 4]);
+    breaks(2, Page(3), KIND, 3, &[0, 1, 2, 3]);
+    breaks(2, Page(7), KIND, 3, &[0, 2, 4]);
+    breaks(2, Page(9), KIND, 3, &[0, 2, 3, 4]);
+    breaks(2, Page(10), KIND, 3, &[1, 2, 3, 4]);
+    breaks(2, Page(15), KIND, 3, &[1, 2, 3, 4]);
     // A free run next to others.
-    breaks(2, page_record(8), KIND, 3, &[1]);
+    breaks(2, Page(8), KIND, 3, &[1]);
     // A taken page of the free list's, with its links.
-    breaks(2, page_record(7), KIND, 3, &[3]);
+    breaks(2, Page(7), KIND, 3, &[3]);
 }
 
 #[test]
 fn unused_fields() {
     for page in 0..16 {
         let flips: Vec<u64> = (0..9).map(|bit| 1 << bit).collect();
-        breaks(2, page_record(page), ZEROS, 9, &flips);
-        breaks(2, page_record(page), ZEROS, 9, &[511]);
+        breaks(2, Page(page), ZEROS, 9, &flips);
+        breaks(2, Page(page), ZEROS, 9, &[511]);
     }
     // The map of a class that keeps it in the page, and of other kinds.
     for page in [0, 2, 3, 7, 8, 9, 10, 15] {
         let flips: Vec<u64> = (0..64).map(|bit| 1 << bit).collect();
-        breaks(2, page_record(page), MAP, 64, &flips);
+        breaks(2, Page(page), MAP, 64, &flips);
     }
     for page in [2, 3, 7, 8, 9, 10, 15] {
-        breaks(2, page_record(page), CLASS, 4, &[1, 2, 8, 9, 15]);
+        breaks(2, Page(page), CLASS, 4, &[1, 2, 8, 9, 15]);
     }
     for page in [0, 1, 3, 4, 5, 10, 15] {
-        breaks(2, page_record(page), RUN, 16, &[1, 2, NONE]);
+        breaks(2, Page(page), RUN, 16, &[1, 2, NONE]);
     }
     for page in [2, 3, 8, 10, 14, 15] {
-        breaks(2, page_record(page), NEXT, 16, &[0, 3, 9, 16, 65_534]);
+        breaks(2, Page(page), NEXT, 16, &[0, 3, 9, 16, 65_534]);
     }
     for page in [2, 3, 8, 10, 14] {
-        breaks(2, page_record(page), PREVIOUS, 16, &[0, 2, 9, 16, 65_534]);
+        breaks(2, Page(page), PREVIOUS, 16, &[0, 2, 9, 16, 65_534]);
     }
     // The last page of a free run leads to its first.
-    breaks(2, page_record(15), PREVIOUS, 16, &[NONE, 7, 10, 14, 15, 16]);
+    breaks(2, Page(15), PREVIOUS, 16, &[NONE, 7, 10, 14, 15, 16]);
 }
 
 #[test]
 fn runs() {
-    breaks(2, page_record(2), RUN, 16, &[0, 1, 3, 14, 15, NONE]);
-    breaks(2, page_record(7), RUN, 16, &[0, 2, 9, 10, NONE]);
-    breaks(2, page_record(8), RUN, 16, &[0, 2, 8, 9, NONE]);
-    breaks(2, page_record(9), RUN, 16, &[0, 1, 6, 8, NONE]);
+    breaks(2, Page(2), RUN, 16, &[0, 1, 3, 14, 15, NONE]);
+    breaks(2, Page(7), RUN, 16, &[0, 2, 9, 10, NONE]);
+    breaks(2, Page(8), RUN, 16, &[0, 2, 8, 9, NONE]);
+    breaks(2, Page(9), RUN, 16, &[0, 1, 6, 8, NONE]);
 
-    let mut bytes = fixture();
-    set(&mut bytes, page_record(9) + RUN, 16, 3);
-    set(&mut bytes, page_record(11) + PREVIOUS, 16, 9);
-    set(&mut bytes, page_record(12) + KIND, 3, 1);
-    set(&mut bytes, page_record(12) + RUN, 16, 4);
-    set(&mut bytes, page_record(15) + PREVIOUS, 16, 12);
-    assert_breaks(&mut bytes, 2, "free runs that touch");
+    for edition in EDITIONS {
+        let mut bytes = fixture(edition);
+        put(&mut bytes, Page(9), RUN, 16, 3);
+        put(&mut bytes, Page(11), PREVIOUS, 16, 9);
+        put(&mut bytes, Page(12), KIND, 3, 1);
+        put(&mut bytes, Page(12), RUN, 16, 4);
+        put(&mut bytes, Page(15), PREVIOUS, 16, 12);
+        assert_breaks(&mut bytes, 2, "free runs that touch");
+    }
 }
 
 #[test]
 fn free_run_list() {
-    breaks(
-        3,
-        page_record(7),
-        NEXT,
-        16,
-        &[7, 5, 8, 10, 16, 65_534, NONE],
-    );
-    breaks(3, page_record(7), PREVIOUS, 16, &[7, 9, 5, 16, 65_534]);
-    breaks(3, page_record(9), NEXT, 16, &[9, 7, 5, 15, 16, 65_534]);
-    breaks(3, page_record(9), PREVIOUS, 16, &[NONE, 9, 8, 16, 65_534]);
+    breaks(3, Page(7), NEXT, 16, &[7, 5, 8, 10, 16, 65_534, NONE]);
+    breaks(3, Page(7), PREVIOUS, 16, &[7, 9, 5, 16, 65_534]);
+    breaks(3, Page(9), NEXT, 16, &[9, 7, 5, 15, 16, 65_534]);
+    breaks(3, Page(9), PREVIOUS, 16, &[NONE, 9, 8, 16, 65_534]);
 
-    // The taken run becomes a free one that no list holds.
-    let mut bytes = fixture();
-    set(&mut bytes, page_record(2) + KIND, 3, 1);
-    set(&mut bytes, page_record(3) + KIND, 3, 0);
-    set(&mut bytes, page_record(3) + PREVIOUS, 16, 2);
-    assert_breaks(&mut bytes, 3, "a free run off the list");
-    // Put on the list, it only makes the free pages wrong.
-    set(&mut bytes, page_record(9) + NEXT, 16, 2);
-    set(&mut bytes, page_record(2) + PREVIOUS, 16, 9);
-    assert_breaks(&mut bytes, 6, "free pages off by two");
-    set(&mut bytes, FREE, 16, 10);
-    assert_breaks(&mut bytes, 0, "mended");
-    // Two lists in one: 7 and 9 lead to each other, the head stands apart.
-    set(&mut bytes, FIRST, 16, 2);
-    set(&mut bytes, page_record(2) + PREVIOUS, 16, NONE);
-    set(&mut bytes, page_record(7) + PREVIOUS, 16, 9);
-    set(&mut bytes, page_record(9) + NEXT, 16, 7);
-    assert_breaks(&mut bytes, 3, "a ring off the list");
-    // All three in a ring.
-    set(&mut bytes, page_record(2) + NEXT, 16, 7);
-    set(&mut bytes, page_record(7) + PREVIOUS, 16, 2);
-    set(&mut bytes, page_record(2) + PREVIOUS, 16, 9);
-    set(&mut bytes, page_record(9) + NEXT, 16, 2);
-    assert_breaks(&mut bytes, 3, "a ring");
+    for edition in EDITIONS {
+        // The taken run becomes a free one that no list holds.
+        let mut bytes = fixture(edition);
+        put(&mut bytes, Page(2), KIND, 3, 1);
+        put(&mut bytes, Page(3), KIND, 3, 0);
+        put(&mut bytes, Page(3), PREVIOUS, 16, 2);
+        assert_breaks(&mut bytes, 3, "a free run off the list");
+        // Put on the list, it only makes the free pages wrong.
+        put(&mut bytes, Page(9), NEXT, 16, 2);
+        put(&mut bytes, Page(2), PREVIOUS, 16, 9);
+        assert_breaks(&mut bytes, 6, "free pages off by two");
+        put(&mut bytes, Header, FREE, 16, 10);
+        assert_breaks(&mut bytes, 0, "mended");
+        // Two lists in one: 7 and 9 lead to each other, the head stands apart.
+        put(&mut bytes, Header, FIRST, 16, 2);
+        put(&mut bytes, Page(2), PREVIOUS, 16, NONE);
+        put(&mut bytes, Page(7), PREVIOUS, 16, 9);
+        put(&mut bytes, Page(9), NEXT, 16, 7);
+        assert_breaks(&mut bytes, 3, "a ring off the list");
+        // All three in a ring.
+        put(&mut bytes, Page(2), NEXT, 16, 7);
+        put(&mut bytes, Page(7), PREVIOUS, 16, 2);
+        put(&mut bytes, Page(2), PREVIOUS, 16, 9);
+        put(&mut bytes, Page(9), NEXT, 16, 2);
+        assert_breaks(&mut bytes, 3, "a ring");
 
-    let mut bytes = fixture();
-    set(&mut bytes, FIRST, 16, 9);
-    set(&mut bytes, page_record(9) + NEXT, 16, 7);
-    set(&mut bytes, page_record(9) + PREVIOUS, 16, NONE);
-    set(&mut bytes, page_record(7) + NEXT, 16, NONE);
-    set(&mut bytes, page_record(7) + PREVIOUS, 16, 9);
-    assert_breaks(&mut bytes, 0, "another order");
+        let mut bytes = fixture(edition);
+        put(&mut bytes, Header, FIRST, 16, 9);
+        put(&mut bytes, Page(9), NEXT, 16, 7);
+        put(&mut bytes, Page(9), PREVIOUS, 16, NONE);
+        put(&mut bytes, Page(7), NEXT, 16, NONE);
+        put(&mut bytes, Page(7), PREVIOUS, 16, 9);
+        assert_breaks(&mut bytes, 0, "another order");
+    }
 }
 
 #[test]
 fn class_lists() {
-    breaks(4, page_record(5), NEXT, 16, &[5, NONE, 0, 4, 7, 16, 65_534]);
-    breaks(4, page_record(5), PREVIOUS, 16, &[5, 6, 0, 16, 65_534]);
-    breaks(4, page_record(6), NEXT, 16, &[6, 5, 0, 4, 7, 16, 65_534]);
-    breaks(4, page_record(6), PREVIOUS, 16, &[NONE, 6, 0, 16, 65_534]);
+    breaks(4, Page(5), NEXT, 16, &[5, NONE, 0, 4, 7, 16, 65_534]);
+    breaks(4, Page(5), PREVIOUS, 16, &[5, 6, 0, 16, 65_534]);
+    breaks(4, Page(6), NEXT, 16, &[6, 5, 0, 4, 7, 16, 65_534]);
+    breaks(4, Page(6), PREVIOUS, 16, &[NONE, 6, 0, 16, 65_534]);
     for page in [0, 1] {
         let links = [0, 1, 5, 7, 16, 65_534];
-        breaks(4, page_record(page), NEXT, 16, &links);
-        breaks(4, page_record(page), PREVIOUS, 16, &links);
+        breaks(4, Page(page), NEXT, 16, &links);
+        breaks(4, Page(page), PREVIOUS, 16, &links);
     }
     // A full page has no links.
-    breaks(4, page_record(4), NEXT, 16, &[0, 4, 5, 16, 65_534]);
-    breaks(4, page_record(4), PREVIOUS, 16, &[0, 4, 5, 16, 65_534]);
+    breaks(4, Page(4), NEXT, 16, &[0, 4, 5, 16, 65_534]);
+    breaks(4, Page(4), PREVIOUS, 16, &[0, 4, 5, 16, 65_534]);
     // A page of another class than its list's; the first rule it breaks may
     // also be that its map does not suit the class.
-    breaks(4, page_record(0), CLASS, 4, &[1, 2, 3, 8]);
-    breaks(4, page_record(1), CLASS, 4, &[4, 8]);
-    breaks(2, page_record(1), CLASS, 4, &[9, 15, 0, 1, 2]);
-    breaks(4, page_record(4), CLASS, 4, &[3, 7]);
-    breaks(4, page_record(5), CLASS, 4, &[3, 6]);
-    breaks(2, page_record(5), CLASS, 4, &[0, 8, 9, 15]);
+    breaks(4, Page(0), CLASS, 4, &[1, 2, 3, 8]);
+    breaks(4, Page(1), CLASS, 4, &[4, 8]);
+    breaks(2, Page(1), CLASS, 4, &[9, 15, 0, 1, 2]);
+    breaks(4, Page(4), CLASS, 4, &[3, 7]);
+    breaks(4, Page(5), CLASS, 4, &[3, 6]);
+    breaks(2, Page(5), CLASS, 4, &[0, 8, 9, 15]);
     // A page full by its map stays off its list, an open one is on it.
-    breaks(4, page_record(1), MAP, 64, &[u64::MAX]);
-    breaks(4, page_record(4), MAP, 64, &[1 << 63, 1 << 62, 0]);
-    breaks(4, page_record(5), MAP, 64, &[0b1111 << 60]);
+    breaks(4, Page(1), MAP, 64, &[u64::MAX]);
+    breaks(4, Page(4), MAP, 64, &[1 << 63, 1 << 62, 0]);
+    breaks(4, Page(5), MAP, 64, &[0b1111 << 60]);
 
-    // A full page alone on its list, in the place of an open one.
-    let mut bytes = vec![0; length(2)];
-    format(&mut bytes).unwrap();
-    for _ in 0..3 {
-        alloc(&mut bytes, 2_048).unwrap();
+    for edition in EDITIONS {
+        // A full page alone on its list, in the place of an open one.
+        let mut bytes = vec![0; edition.length(2)];
+        format(&mut bytes, edition.number).unwrap();
+        for _ in 0..3 {
+            alloc(&mut bytes, 2_048).unwrap();
+        }
+        put(&mut bytes, Class(8), CLASS_FIRST, 16, 0);
+        assert_breaks(&mut bytes, 4, "the full page instead of the open one");
+        put(&mut bytes, Page(0), NEXT, 16, 1);
+        put(&mut bytes, Page(1), PREVIOUS, 16, 0);
+        assert_breaks(&mut bytes, 4, "the full page before the open one");
     }
-    set(&mut bytes, class_record(8) + CLASS_FIRST, 16, 0);
-    assert_breaks(&mut bytes, 4, "the full page instead of the open one");
-    set(&mut bytes, page_record(0) + NEXT, 16, 1);
-    set(&mut bytes, page_record(1) + PREVIOUS, 16, 0);
-    assert_breaks(&mut bytes, 4, "the full page before the open one");
 }
 
 #[test]
 fn maps() {
     // Bits below a short map.
-    breaks(
-        2,
-        page_record(4),
-        MAP,
-        64,
-        &[u64::MAX, 0b111 << 61, 3 << 62 | 1],
-    );
-    breaks(2, page_record(5), MAP, 64, &[0b1011 << 60 | 1 << 59]);
+    breaks(2, Page(4), MAP, 64, &[u64::MAX, 0b111 << 61, 3 << 62 | 1]);
+    breaks(2, Page(5), MAP, 64, &[0b1011 << 60 | 1 << 59]);
     // The map's own marks, every one of them.
-    for (class, own) in [(0, 8), (1, 2), (2, 1)] {
-        let mut sound = vec![0; length(1)];
-        format(&mut sound).unwrap();
+    let owns = [(0, 8), (1, 2), (2, 1)].into_iter();
+    for (edition, (class, own)) in owns.flat_map(|own| EDITIONS.map(|e| (e, own))) {
+        let mut sound = vec![0; edition.length(1)];
+        format(&mut sound, edition.number).unwrap();
         alloc(&mut sound, 8 << class).unwrap();
-        let map = page_at(1, 0) * 8;
+        let page = edition.page_at(1, 0);
+        let map = page * 8;
         for chunk in 0..own {
             let mut bytes = sound.clone();
             set(&mut bytes, map + chunk, 1, 0);
@@ -365,121 +463,128 @@ fn maps() {
         }
         let mut bytes = sound.clone();
         let bytes_of_map = 64 >> class;
-        bytes[page_at(1, 0)..][..bytes_of_map].fill(0xFF);
+        bytes[page..][..bytes_of_map].fill(0xFF);
         assert_breaks(&mut bytes, 4, "a full page on a list");
         // The byte after the map is a caller's.
         let mut bytes = sound.clone();
-        bytes[page_at(1, 0) + bytes_of_map] = 0xFF;
+        bytes[page + bytes_of_map] = 0xFF;
         assert_breaks(&mut bytes, 0, "a caller's byte");
     }
     // An empty class page breaks 5 even when the counts agree with it.
-    breaks(5, page_record(1), MAP, 64, &[0]);
-    let mut bytes = fixture();
-    set(&mut bytes, page_record(1) + MAP, 64, 0);
-    set(&mut bytes, class_record(3) + USED, 24, 0);
-    assert_breaks(&mut bytes, 5, "an empty class page");
-    breaks(6, page_record(1), MAP, 64, &[3 << 62, 1 << 63 | 1]);
-    breaks(0, page_record(1), MAP, 64, &[1, 1 << 40]);
+    breaks(5, Page(1), MAP, 64, &[0]);
+    for edition in EDITIONS {
+        let mut bytes = fixture(edition);
+        put(&mut bytes, Page(1), MAP, 64, 0);
+        put(&mut bytes, Class(3), USED, 24, 0);
+        assert_breaks(&mut bytes, 5, "an empty class page");
+    }
+    breaks(6, Page(1), MAP, 64, &[3 << 62, 1 << 63 | 1]);
+    breaks(0, Page(1), MAP, 64, &[1, 1 << 40]);
 }
 
 /// The record of a page numbered P would begin where the first page does, so a
 /// caller can write there what looks like one.
 #[test]
 fn forged_records_past_the_last_page() {
-    let sound = || {
-        let mut bytes = vec![0; length(3)];
-        format(&mut bytes).unwrap();
-        assert_eq!(alloc(&mut bytes, 4_096), Ok(0));
-        bytes
-    };
-    let forge = |bytes: &mut [u8], kind, class, run, previous| {
-        let at = page_record(3);
-        assert_eq!(at, page_at(3, 0) * 8);
-        set(bytes, at + MAP, 64, if kind == 2 { 1 << 63 } else { 0 });
-        set(bytes, at + KIND, 3, kind);
-        set(bytes, at + CLASS, 4, class);
-        set(bytes, at + RUN, 16, run);
-        set(bytes, at + NEXT, 16, NONE);
-        set(bytes, at + PREVIOUS, 16, previous);
-        set(bytes, at + ZEROS, 9, 0);
-        assert_eq!(broken_rule(bytes), 0);
-    };
+    for edition in EDITIONS {
+        let sound = || {
+            let mut bytes = vec![0; edition.length(3)];
+            format(&mut bytes, edition.number).unwrap();
+            assert_eq!(alloc(&mut bytes, 4_096), Ok(0));
+            bytes
+        };
+        let forge = |bytes: &mut [u8], kind, class, run, previous| {
+            let at = Page(3).at(edition);
+            assert_eq!(at, edition.page_at(3, 0) * 8);
+            set(bytes, at + MAP, 64, if kind == 2 { 1 << 63 } else { 0 });
+            set(bytes, at + KIND, 3, kind);
+            set(bytes, at + CLASS, 4, class);
+            set(bytes, at + RUN, 16, run);
+            set(bytes, at + NEXT, 16, NONE);
+            set(bytes, at + PREVIOUS, 16, previous);
+            set(bytes, at + ZEROS, 9, 0);
+            assert_eq!(broken_rule(bytes), 0);
+        };
 
-    let mut bytes = sound();
-    forge(&mut bytes, 1, 0, 1, NONE);
-    set(&mut bytes, FIRST, 16, 3);
-    assert_breaks(&mut bytes, 3, "a forged free run as the head");
+        let mut bytes = sound();
+        forge(&mut bytes, 1, 0, 1, NONE);
+        put(&mut bytes, Header, FIRST, 16, 3);
+        assert_breaks(&mut bytes, 3, "a forged free run as the head");
 
-    let mut bytes = sound();
-    assert_eq!(alloc(&mut bytes, 64), Ok(4_096));
-    forge(&mut bytes, 2, 3, 0, NONE);
-    set(&mut bytes, class_record(3) + CLASS_FIRST, 16, 3);
-    assert_breaks(&mut bytes, 4, "a forged class page as the head");
+        let mut bytes = sound();
+        assert_eq!(alloc(&mut bytes, 64), Ok(4_096));
+        forge(&mut bytes, 2, 3, 0, NONE);
+        put(&mut bytes, Class(3), CLASS_FIRST, 16, 3);
+        assert_breaks(&mut bytes, 4, "a forged class page as the head");
 
-    let mut bytes = sound();
-    forge(&mut bytes, 0, 0, 0, 1);
-    set(&mut bytes, page_record(1) + RUN, 16, 3);
-    set(&mut bytes, page_record(2) + PREVIOUS, 16, NONE);
-    assert_breaks(&mut bytes, 2, "a free run past the last page");
+        let mut bytes = sound();
+        forge(&mut bytes, 0, 0, 0, 1);
+        put(&mut bytes, Page(1), RUN, 16, 3);
+        put(&mut bytes, Page(2), PREVIOUS, 16, NONE);
+        assert_breaks(&mut bytes, 2, "a free run past the last page");
 
-    let mut bytes = sound();
-    assert_eq!(alloc(&mut bytes, 8_192), Ok(4_096));
-    forge(&mut bytes, 4, 0, 0, NONE);
-    set(&mut bytes, page_record(1) + RUN, 16, 3);
-    assert_breaks(&mut bytes, 2, "a taken run past the last page");
+        let mut bytes = sound();
+        assert_eq!(alloc(&mut bytes, 8_192), Ok(4_096));
+        forge(&mut bytes, 4, 0, 0, NONE);
+        put(&mut bytes, Page(1), RUN, 16, 3);
+        assert_breaks(&mut bytes, 2, "a taken run past the last page");
+    }
 }
 
 #[test]
 fn rules_are_tried_in_order() {
-    // From the last rule to the first, each damage hides those before it.
-    let mut bytes = fixture();
-    set(&mut bytes, FREE, 16, 0);
-    assert_breaks(&mut bytes, 6, "counts");
-    set(&mut bytes, page_record(1) + MAP, 64, 0);
-    assert_breaks(&mut bytes, 5, "empty page");
-    set(&mut bytes, page_record(4) + NEXT, 16, 0);
-    assert_breaks(&mut bytes, 4, "class list");
-    set(&mut bytes, FIRST, 16, 16);
-    assert_breaks(&mut bytes, 3, "free-run list");
-    set(&mut bytes, page_record(15) + ZEROS, 9, 1);
-    assert_breaks(&mut bytes, 2, "field");
-    set(&mut bytes, EDITION, 8, 2);
-    assert_breaks(&mut bytes, 1, "edition");
+    for edition in EDITIONS {
+        // From the last rule to the first, each damage hides those before it.
+        let mut bytes = fixture(edition);
+        put(&mut bytes, Header, FREE, 16, 0);
+        assert_breaks(&mut bytes, 6, "counts");
+        put(&mut bytes, Page(1), MAP, 64, 0);
+        assert_breaks(&mut bytes, 5, "empty page");
+        put(&mut bytes, Page(4), NEXT, 16, 0);
+        assert_breaks(&mut bytes, 4, "class list");
+        put(&mut bytes, Header, FIRST, 16, 16);
+        assert_breaks(&mut bytes, 3, "free-run list");
+        put(&mut bytes, Page(15), ZEROS, 9, 1);
+        assert_breaks(&mut bytes, 2, "field");
+        put(&mut bytes, Header, EDITION, 8, 3);
+        assert_breaks(&mut bytes, 1, "edition");
+    }
 }
 
 #[test]
 fn every_field_with_every_telling_number() {
-    let sound = fixture();
-    let mut records = vec![(0, &HEADER_FIELDS[..])];
-    records.extend((0..9).map(|class| (class_record(class), &CLASS_FIELDS[..])));
-    records.extend((0..16).map(|page| (page_record(page), &PAGE_FIELDS[..])));
-    let mut broken = [0; 7];
-    for (record, fields) in records {
-        for &(above, width) in fields {
-            let at = record + above;
-            let old = bits::get(&sound, at, width);
-            let largest = u64::MAX >> (64 - width);
-            let mut numbers: Vec<u64> = (0..=18).chain([255, 256, 257, 65_534]).collect();
-            numbers.extend((0..width).map(|bit| old ^ 1 << bit));
-            numbers.extend([old.wrapping_sub(1), old.wrapping_add(1), largest]);
-            for number in numbers.into_iter().filter(|number| *number <= largest) {
-                let mut bytes = sound.clone();
-                set(&mut bytes, at, width, number);
-                let rule = broken_rule(&bytes);
-                let expected = literal::broken_rule(&bytes);
-                assert_eq!(rule, expected, "bit {record} + {above}: {number}");
-                broken[rule as usize] += 1;
+    for edition in EDITIONS {
+        let sound = fixture(edition);
+        let pages = (0..16).map(Page);
+        let records = [Header].into_iter().chain((0..9).map(Class)).chain(pages);
+        let mut broken = [0; 7];
+        for record in records {
+            for &(above, width) in record.fields(edition) {
+                let at = record.at(edition) + above;
+                let old = bits::get(&sound, at, width);
+                let largest = u64::MAX >> (64 - width);
+                let mut numbers: Vec<u64> = (0..=18).chain([255, 256, 257, 65_534]).collect();
+                numbers.extend((0..width).map(|bit| old ^ 1 << bit));
+                numbers.extend([old.wrapping_sub(1), old.wrapping_add(1), largest]);
+                for number in numbers.into_iter().filter(|number| *number <= largest) {
+                    let mut bytes = sound.clone();
+                    set(&mut bytes, at, width, number);
+                    let rule = broken_rule(&bytes);
+                    let expected = literal::broken_rule(&bytes);
+                    assert_eq!(rule, expected, "{edition:?}, {record:?}, {above}: {number}");
+                    broken[rule as usize] += 1;
+                }
             }
         }
+        assert!(broken.iter().all(|count| *count > 0), "{broken:?}");
     }
-    assert!(broken.iter().all(|count| *count > 0), "{broken:?}");
 }
 
 /// A sound pool of a few pages after some random calls.
-fn random_pool(rng: &mut Rng) -> Vec<u8> {
+fn random_pool(rng: &mut Rng, edition: Edition) -> Vec<u8> {
     let pages = 1 + rng.below(9);
-    let mut bytes = vec![0; length(pages as usize)];
-    format(&mut bytes).unwrap();
+    let mut bytes = vec![0; edition.length(pages as usize)];
+    format(&mut bytes, edition.number).unwrap();
     let mut live = Vec::new();
     for _ in 0..rng.below(40) {
         if live.is_empty() || !rng.once_in(3) {
@@ -494,27 +599,28 @@ fn random_pool(rng: &mut Rng) -> Vec<u8> {
 }
 
 /// Changes one field of a record, one mark inside a page, or links two pages.
-fn damage(rng: &mut Rng, bytes: &mut [u8]) {
-    let pages = (bytes.len() - HEAD) / PER_PAGE;
+fn damage(rng: &mut Rng, edition: Edition, bytes: &mut [u8]) {
+    let pages = (bytes.len() - edition.head()) / PER_PAGE;
     let page = rng.below(pages as u64) as usize;
-    let (record, fields) = match rng.below(12) {
-        0 => (0, &HEADER_FIELDS[..]),
-        1 | 2 => (class_record(rng.below(9) as usize), &CLASS_FIELDS[..]),
+    let record = match rng.below(12) {
+        0 => Header,
+        1 | 2 => Class(rng.below(9) as usize),
         3 => {
-            let mark = page_at(pages, page) * 8 + rng.below(512) as usize;
+            let mark = edition.page_at(pages, page) * 8 + rng.below(512) as usize;
             return set(bytes, mark, 1, rng.below(2));
         }
         4 => {
             // Links that agree with each other, crossing lists or closing rings.
             let next = rng.below(pages as u64);
-            set(bytes, page_record(page) + NEXT, 16, next);
-            let previous = page_record(next as usize) + PREVIOUS;
+            set(bytes, Page(page).at(edition) + NEXT, 16, next);
+            let previous = Page(next as usize).at(edition) + PREVIOUS;
             return set(bytes, previous, 16, page as u64);
         }
-        _ => (page_record(page), &PAGE_FIELDS[..]),
+        _ => Page(page),
     };
-    let (above, width) = fields[rng.below(fields.len() as u64) as usize];
-    let old = bits::get(bytes, record + above, width);
+    let (above, width) = rng.pick(record.fields(edition));
+    let at = record.at(edition) + above;
+    let old = bits::get(bytes, at, width);
     let number = match rng.below(7) {
         0 => 0,
         1 => NONE,
@@ -524,7 +630,43 @@ fn damage(rng: &mut Rng, bytes: &mut [u8]) {
         5 => old ^ 1 << rng.below(width as u64),
         _ => rng.word(),
     };
-    set(bytes, record + above, width, number);
+    set(bytes, at, width, number);
+}
+
+/// The bytes are converted as literally read, into a target of a length that
+/// often suits, or refused.
+fn assert_converts(rng: &mut Rng, source: &[u8], what: &str) {
+    let length = match rng.below(4) {
+        0 => TWO.length(rng.below(12) as usize) - rng.below(2) as usize,
+        _ => source.len() + 72 - rng.below(2) as usize,
+    };
+    let mut target = rng.bytes(length);
+    let before = target.clone();
+    let expected = literal::converted(source, &target);
+    let answer = convert(source, &mut target).map_err(|refusal| refusal.number());
+    match expected {
+        Ok(bytes) => {
+            assert_eq!(answer, Ok(u32::from(source[3])), "{what}");
+            assert!(target == bytes, "{what}");
+            assert_eq!(broken_rule(&target), 0, "{what}");
+            assert_eq!(live_blocks(&target), live_blocks(source), "{what}");
+        }
+        Err(number) => {
+            assert_eq!(answer, Err(number), "{what}");
+            assert!(target == before, "{what}");
+        }
+    }
+}
+
+#[test]
+fn random_conversions() {
+    let mut rng = Rng::new(4);
+    for trial in 0..TRIALS / 10 {
+        let mut source = random_pool(&mut rng, ONE);
+        let tail = rng.below(PER_PAGE as u64) as usize;
+        source.extend(rng.bytes(tail));
+        assert_converts(&mut rng, &source, &format!("trial {trial}"));
+    }
 }
 
 #[test]
@@ -532,22 +674,24 @@ fn random_damage() {
     let mut rng = Rng::new(2);
     let mut broken = [0; 7];
     for trial in 0..TRIALS {
-        let mut bytes = random_pool(&mut rng);
+        let edition = rng.pick(&EDITIONS);
+        let mut bytes = random_pool(&mut rng, edition);
         for _ in 0..1 + rng.below(3) {
-            damage(&mut rng, &mut bytes);
+            damage(&mut rng, edition, &mut bytes);
         }
         let rule = broken_rule(&bytes);
         assert_breaks(&mut bytes, rule, &format!("trial {trial}"));
+        assert_converts(&mut rng, &bytes, &format!("trial {trial}"));
         broken[rule as usize] += 1;
         // Without validation the calls must end, whatever they find.
         for _ in 0..4 {
-            let pages = ((bytes.len() - HEAD) / PER_PAGE) as u64;
+            let pages = ((bytes.len() - edition.head()) / PER_PAGE) as u64;
             let _ = alloc_sound(&mut bytes, rng.below(9_000) as u32);
             let _ = free_sound(&mut bytes, rng.below(pages * 512 + 2) as u32 * 8);
         }
     }
     assert!(
-        broken.iter().all(|count| *count > TRIALS / 500),
+        broken.iter().all(|count| *count > TRIALS / 1_000),
         "{broken:?}"
     );
 }
@@ -557,26 +701,22 @@ fn unvalidated_calls_end_on_random_records() {
     let mut rng = Rng::new(3);
     for trial in 0..TRIALS / 10 {
         let pages = 1 + rng.below(12);
-        let mut bytes = vec![0; length(pages as usize)];
-        rng.fill(&mut bytes);
+        let edition = rng.pick(&EDITIONS);
+        let mut bytes = rng.bytes(edition.length(pages as usize));
+        bytes[0] = edition.number;
         if trial % 2 == 0 {
             // Near numbers make links that lead somewhere.
             for page in 0..pages as usize {
-                let at = page_record(page);
+                let at = Page(page).at(edition);
                 set(&mut bytes, at + KIND, 3, rng.below(5));
                 set(&mut bytes, at + CLASS, 4, rng.below(10));
                 for above in [RUN, NEXT, PREVIOUS] {
                     set(&mut bytes, at + above, 16, rng.below(pages + 1));
                 }
             }
-            set(&mut bytes, FIRST, 16, rng.below(pages));
+            put(&mut bytes, Header, FIRST, 16, rng.below(pages));
             for class in 0..9 {
-                set(
-                    &mut bytes,
-                    class_record(class) + CLASS_FIRST,
-                    16,
-                    rng.below(pages),
-                );
+                put(&mut bytes, Class(class), CLASS_FIRST, 16, rng.below(pages));
             }
         }
         for _ in 0..8 {
@@ -586,9 +726,13 @@ fn unvalidated_calls_end_on_random_records() {
             let _ = free_sound(&mut bytes, rng.word() as u32);
         }
     }
-    for length in [0, 1, 8, SHORTEST - 1, LONGEST + 1] {
-        let mut bytes = vec![0xFF; length];
-        assert_eq!(alloc_sound(&mut bytes, 8), Err(Refusal::NotSound));
-        assert_eq!(free_sound(&mut bytes, 0), Err(Refusal::NotSound));
+    for edition in EDITIONS {
+        for length in [0, 1, 8, edition.shortest() - 1, edition.longest() + 1] {
+            for fill in [edition.number, 0xFF] {
+                let mut bytes = vec![fill; length];
+                assert_eq!(alloc_sound(&mut bytes, 8), Err(Refusal::NotSound));
+                assert_eq!(free_sound(&mut bytes, 0), Err(Refusal::NotSound));
+            }
+        }
     }
 }

@@ -2,11 +2,11 @@
 
 use reference::view::Contradiction;
 use reference::{
-    alloc, alloc_sound, format, free_sound, live_blocks, shown, Block, Call, Class, LiveSet,
-    Refusal,
+    alloc, alloc_sound, format, free_sound, live_blocks, peaks, shown, Block, Call, Class, LiveSet,
+    Peaks, Refusal,
 };
 
-use support::{length, Rng, SHORTEST};
+use support::{Rng, EDITIONS, TWO};
 
 fn chunk(number: u32) -> Block {
     Block::Chunk(Class::new(number).unwrap())
@@ -119,20 +119,40 @@ fn the_expected_view() {
 
 #[test]
 fn a_pool_is_read_by_itself() {
-    let mut pool = vec![0xFF; length(12)];
-    format(&mut pool).unwrap();
-    let mut live = LiveSet::new(12);
-    for size in [8, 9, 17, 33, 2_048, 2_048, 2_049, 9_000, 8] {
-        live.record_alloc(size, alloc(&mut pool, size)).unwrap();
+    for edition in EDITIONS {
+        let mut pool = vec![0xFF; edition.length(12)];
+        format(&mut pool, edition.number).unwrap();
+        let mut live = LiveSet::new(12);
+        for size in [8, 9, 17, 33, 2_048, 2_048, 2_049, 9_000, 8] {
+            live.record_alloc(size, alloc(&mut pool, size)).unwrap();
+        }
+        assert_eq!(live_blocks(&pool).as_ref(), Some(live.blocks()));
+        assert_eq!(shown(&pool), Some(live.expected()));
+        let due = (edition == TWO).then(|| live.used());
+        assert_eq!(peaks(&pool), due);
+        // The view is read as it stands, the blocks only from a sound pool.
+        pool[8 + 4] ^= 1;
+        let wrong = shown(&pool).unwrap();
+        assert_ne!(wrong, live.expected());
+        assert_eq!(live_blocks(&pool), None);
+        assert_eq!(shown(&pool[..edition.shortest() - 1]), None);
+        pool[0] = 3;
+        assert_eq!(shown(&pool), None);
+        assert_eq!(peaks(&pool), None);
     }
-    assert_eq!(live_blocks(&pool).as_ref(), Some(live.blocks()));
-    assert_eq!(shown(&pool), Some(live.expected()));
-    // The view is read as it stands, the blocks only from a sound pool.
-    pool[8 + 4] ^= 1;
-    let wrong = shown(&pool).unwrap();
-    assert_ne!(wrong, live.expected());
-    assert_eq!(live_blocks(&pool), None);
-    assert_eq!(shown(&pool[..SHORTEST - 1]), None);
+}
+
+#[test]
+fn the_peaks_follow_the_live_blocks() {
+    let mut live = live_set(12, &[(30, 32), (64, 4_096), (64, 4_160), (5_000, 8_192)]);
+    assert_eq!(live.used(), [0, 0, 1, 2, 0, 0, 0, 0, 0]);
+    let mut peaks = Peaks::new([0, 3, 0, 0, 0, 0, 0, 0, 0]);
+    peaks.note(&live);
+    assert_eq!(peaks.by_class(), [0, 3, 1, 2, 0, 0, 0, 0, 0]);
+    live.record_free(4_096, Ok(64)).unwrap();
+    live.record_free(32, Ok(32)).unwrap();
+    peaks.note(&live);
+    assert_eq!(peaks.by_class(), [0, 3, 1, 2, 0, 0, 0, 0, 0]);
 }
 
 /// Rules on every size and every offset, and holds each ruling against what a
@@ -143,8 +163,9 @@ fn every_next_call() {
     let mut rng = Rng::new(4);
     for _ in 0..states {
         let pages = 1 + rng.below(4) as u32;
-        let mut pool = vec![0; length(pages as usize)];
-        format(&mut pool).unwrap();
+        let edition = rng.pick(&EDITIONS);
+        let mut pool = vec![0; edition.length(pages as usize)];
+        format(&mut pool, edition.number).unwrap();
         let mut live = LiveSet::new(pages);
         let shift = 3 + rng.below(10);
         for _ in 0..rng.below(80) {

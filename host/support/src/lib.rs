@@ -11,9 +11,6 @@ mod requests;
 mod rng;
 
 pub use habit::{mixed_size, offset, Habit};
-pub use layout::{
-    callers_bytes, class_record_at, length, page_at, page_record_at, HEAD, HEADER, LONGEST,
-    MOST_PAGES, PAGE, PER_PAGE, RECORD, SHORTEST,
-};
+pub use layout::{Edition, EDITIONS, HEADER, MOST_PAGES, ONE, PAGE, PER_PAGE, RECORD, TWO};
 pub use requests::{best_in_turn, requests, serve, sum_of};
 pub use rng::Rng;

@@ -16,7 +16,8 @@ use layout::{
 };
 use runs::{alloc_run, release};
 
-/// Makes the slice a pool with one free run, and answers its page count.
+/// Makes the slice a pool of edition 1 with one free run, and answers its page
+/// count.
 pub fn format(bytes: &mut [u8]) -> Result<u32, Refusal> {
     let pages = page_count(bytes.len())?;
     let pool = Pool::split(bytes, |_| pages).ok_or(Refusal::TooShort)?;

@@ -4,13 +4,13 @@ mod calls;
 
 use calls::Calls;
 use reference::Call;
-use support::{length, MOST_PAGES, PAGE};
+use support::{MOST_PAGES, ONE, PAGE};
 use yardstick::native::Pool;
 
 fn agree(seed: u64, pages: usize, turns: usize) {
     let mut calls = Calls::new(seed, pages);
-    let mut bytes = vec![0; length(pages)];
-    reference::format(&mut bytes).expect("a length that holds pages");
+    let mut bytes = vec![0; ONE.length(pages)];
+    reference::format(&mut bytes, 1).expect("a length that holds pages");
     let mut pool = Pool::new(pages as u16);
     for turn in 0..turns {
         let call = calls.next();

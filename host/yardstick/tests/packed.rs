@@ -5,11 +5,16 @@ mod calls;
 
 use calls::Calls;
 use reference::{Call, Refusal};
-use support::{class_record_at, length, Rng, LONGEST, PAGE, PER_PAGE};
+use support::{Rng, ONE, PAGE, PER_PAGE, TWO};
 use yardstick::{native, packed};
 
 type Format = fn(&mut [u8]) -> Result<u32, Refusal>;
 type Serve = fn(&mut [u8], u32) -> Result<u32, Refusal>;
+
+/// The second program's format of the edition that the yardstick knows.
+fn format_second(pool: &mut [u8]) -> Result<u32, Refusal> {
+    reference::format(pool, 1)
+}
 
 /// A pool and the functions that work on it.
 struct Player {
@@ -35,13 +40,9 @@ impl Player {
 fn agree(seed: u64, pages: usize, turns: usize) {
     let mut calls = Calls::new(seed, pages);
     let tail = calls.rng.below(PER_PAGE as u64) as usize;
-    let bytes = calls.rng.bytes(length(pages) + tail);
+    let bytes = calls.rng.bytes(ONE.length(pages) + tail);
     let new = |format, alloc, free| Player::new(bytes.clone(), format, alloc, free);
-    let mut second = new(
-        reference::format,
-        reference::alloc_sound,
-        reference::free_sound,
-    );
+    let mut second = new(format_second, reference::alloc_sound, reference::free_sound);
     let mut others = [
         new(packed::format, packed::alloc, packed::free),
         new(packed::format, packed::alloc_sound, packed::free_sound),
@@ -80,12 +81,15 @@ fn calls_agree_in_large_pools() {
 #[test]
 fn lengths_agree() {
     let around = |len| len - 150..len + 150;
-    let lengths = (0..200).chain(around(length(1))).chain(around(length(2)));
-    for length in lengths.chain(LONGEST - 1..LONGEST + 3).chain([2_000_000]) {
+    let lengths = (0..200)
+        .chain(around(ONE.length(1)))
+        .chain(around(ONE.length(2)));
+    let longest = ONE.longest();
+    for length in lengths.chain(longest - 1..longest + 3).chain([2_000_000]) {
         let mut ours = vec![7; length];
         let mut theirs = ours.clone();
         let answer = packed::format(&mut ours);
-        assert_eq!(answer, reference::format(&mut theirs), "length {length}");
+        assert_eq!(answer, format_second(&mut theirs), "length {length}");
         assert!(ours == theirs, "length {length}: the pools differ");
         let rule = u8::from(answer.is_err());
         assert_eq!(packed::broken_rule(&ours), rule, "length {length}");
@@ -97,8 +101,8 @@ fn lengths_agree() {
 fn every_offset_is_freed_or_refused_alike() {
     for seed in 0..4 {
         let mut calls = Calls::new(seed, 12);
-        let mut pool = vec![0; length(12)];
-        reference::format(&mut pool).expect("a length that holds pages");
+        let mut pool = vec![0; ONE.length(12)];
+        format_second(&mut pool).expect("a length that holds pages");
         for _ in 0..400 {
             let call = calls.next();
             let answer = match call {
@@ -126,10 +130,10 @@ fn every_offset_is_freed_or_refused_alike() {
 /// Tallies stop at the largest number.
 #[test]
 fn tallies_stop() {
-    let mut pool = vec![0; length(1)];
+    let mut pool = vec![0; ONE.length(1)];
     packed::format(&mut pool).expect("a length that holds a page");
     packed::alloc(&mut pool, PAGE as u32).expect("a free page");
-    let tallies = class_record_at(0) + 8..class_record_at(1);
+    let tallies = ONE.class_record_at(0) + 8..ONE.class_record_at(1);
     pool[tallies.clone()].fill(0xFF);
     pool[tallies.end - 1] = 0xFE;
     let mut other = pool.clone();
@@ -143,11 +147,20 @@ fn tallies_stop() {
 
 #[test]
 fn unsound_pools_are_refused_and_kept() {
-    let bytes = Rng::new(1).bytes(length(2));
+    let bytes = Rng::new(1).bytes(ONE.length(2));
     let mut pool = bytes.clone();
     assert_eq!(packed::alloc(&mut pool, 8), Err(Refusal::NotSound));
     assert_eq!(packed::free(&mut pool, 0), Err(Refusal::NotSound));
     assert!(pool == bytes);
+}
+
+/// Rule 1 is the only one that a pool of edition 2 breaks here.
+#[test]
+fn edition_2_is_unsound() {
+    let mut pool = vec![0; TWO.length(2)];
+    reference::format(&mut pool, 2).expect("a length that holds pages");
+    assert_eq!(packed::broken_rule(&pool), 1);
+    assert_eq!(packed::alloc(&mut pool, 8), Err(Refusal::NotSound));
 }
 
 /// The request word of a call, at times with a stray bit.
@@ -165,7 +178,7 @@ fn batches_agree() {
     for seed in 0..20 {
         for pages in [1, 12, 256] {
             let mut calls = Calls::new(seed, pages);
-            let mut bytes = calls.rng.bytes(length(pages));
+            let mut bytes = calls.rng.bytes(ONE.length(pages));
             packed::format(&mut bytes).expect("a length that holds pages");
             let mut second = bytes.clone();
             let mut native = native::Pool::new(pages as u16);

@@ -25,8 +25,8 @@ returns-3 : tie.Need-returns-3
 unfolding fromRule3
 returns-3 c = search firsts depth 12
 
-counts-fit-requires : tie.Need-counts-fit-requires
-counts-fit-requires c κs = search needs
+counts-and-peaks-fit-requires : tie.Need-counts-and-peaks-fit-requires
+counts-and-peaks-fit-requires c κs = search needs
 
 returns-4 : tie.Need-returns-4
 unfolding fromRule3
@@ -46,6 +46,6 @@ broken-list-or-count-spec =
     returns-2
     in-use-requires
     returns-3
-    counts-fit-requires
+    counts-and-peaks-fit-requires
     returns-4
     returns-5)

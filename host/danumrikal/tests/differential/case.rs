@@ -1,10 +1,13 @@
 use std::fmt;
 
+use support::Edition;
+
 /// The pool of a game, and the bytes that are callers'.
 #[derive(Clone, Copy, Debug, PartialEq, Eq)]
 pub struct Setting {
     /// Of all bytes that callers write, and of those before format.
     pub seed: u64,
+    pub edition: Edition,
     pub pages: usize,
     pub tail: usize,
     /// Whether callers' bytes and the tail change before each call.
@@ -40,10 +43,11 @@ impl fmt::Display for Setting {
         let Setting {
             seed, pages, tail, ..
         } = self;
+        let edition = self.edition.number;
         let written = if self.scrambled { "changed" } else { "kept" };
         write!(
             f,
-            "pages {pages}, tail {tail}, seed {seed}, callers' bytes {written} between calls"
+            "edition {edition}, pages {pages}, tail {tail}, seed {seed}, callers' bytes {written} between calls"
         )
     }
 }

@@ -3,8 +3,8 @@
 //! second program it differs; against itself only the live blocks tell.
 
 use reference::layout::{set_word, word, ClassRecord};
-use reference::{alloc_sound, free_sound, live_blocks, need, shown, Block, Class, Need};
-use support::{length, page_at, HEAD, PAGE, PER_PAGE};
+use reference::{alloc_sound, free_sound, live_blocks, need, shown, Block, Class, Layout, Need};
+use support::{Edition, EDITIONS, PAGE, PER_PAGE, TWO};
 
 use crate::case::{Case, Setting, Turn};
 use crate::player::{play_all, Found, Plan};
@@ -41,7 +41,20 @@ const HANDS_OUT_TWICE: Program = Program {
 };
 
 fn used(pool: &[u8], class: Class) -> u32 {
-    ClassRecord::read(pool, class).used
+    let layout = Layout::of(pool);
+    layout.map_or(0, |layout| ClassRecord::read(pool, layout, class).used)
+}
+
+/// Changes the record of each class, where edition and length hold a pool.
+fn change_records(pool: &mut [u8], change: impl Fn(Class, &mut ClassRecord)) {
+    let Ok(layout) = Layout::of(pool) else {
+        return;
+    };
+    for class in Class::all() {
+        let mut record = ClassRecord::read(pool, layout, class);
+        change(class, &mut record);
+        record.write(pool, layout, class);
+    }
 }
 
 const OVERLOOKS_COUNTS: Program = Program {
@@ -50,16 +63,26 @@ const OVERLOOKS_COUNTS: Program = Program {
         6 => 0,
         rule => rule,
     },
-    alloc: |pool, size| match (OVERLOOKS_COUNTS.broken_rule)(pool) {
-        0 => alloc_sound(pool, size).map_err(|refusal| refusal.number()),
-        _ => Err(3),
-    },
-    free: |pool, offset| match (OVERLOOKS_COUNTS.broken_rule)(pool) {
-        0 => free_sound(pool, offset).map_err(|refusal| refusal.number()),
-        _ => Err(3),
-    },
+    alloc: |pool, size| alloc_if((OVERLOOKS_COUNTS.broken_rule)(pool), pool, size),
+    free: |pool, offset| free_if((OVERLOOKS_COUNTS.broken_rule)(pool), pool, offset),
     ..SECOND
 };
+
+/// Takes a block where this rule is none.
+fn alloc_if(rule: u8, pool: &mut [u8], size: u32) -> Result<u32, u8> {
+    match rule {
+        0 => alloc_sound(pool, size).map_err(|refusal| refusal.number()),
+        _ => Err(3),
+    }
+}
+
+/// Gives a block back where this rule is none.
+fn free_if(rule: u8, pool: &mut [u8], offset: u32) -> Result<u32, u8> {
+    match rule {
+        0 => free_sound(pool, offset).map_err(|refusal| refusal.number()),
+        _ => Err(3),
+    }
+}
 
 /// It overlooks its own counts, so only the live blocks can tell.
 const FORGETS_TO_COUNT_FREES: Program = Program {
@@ -67,10 +90,7 @@ const FORGETS_TO_COUNT_FREES: Program = Program {
     free: |pool, offset| {
         let before: Vec<u32> = Class::all().map(|class| used(pool, class)).collect();
         let answer = (OVERLOOKS_COUNTS.free)(pool, offset);
-        for (class, used) in Class::all().zip(before) {
-            let record = ClassRecord::read(pool, class);
-            ClassRecord { used, ..record }.write(pool, class);
-        }
+        change_records(pool, |class, record| record.used = before[class.index()]);
         answer
     },
     ..OVERLOOKS_COUNTS
@@ -79,14 +99,16 @@ const FORGETS_TO_COUNT_FREES: Program = Program {
 const LETS_THE_END_THROUGH: Program = Program {
     name: "lets the end through",
     free: |pool, offset| match (SECOND.free)(pool, offset) {
-        Err(5) if offset as usize == PAGE * pages(pool) => Err(6),
+        Err(5) if offset as usize == PAGE * shape(pool).1 => Err(6),
         answer => answer,
     },
     ..SECOND
 };
 
-fn pages(pool: &[u8]) -> usize {
-    (pool.len() - HEAD) / PER_PAGE
+/// Edition and page count of a pool that answered otherwise than with 3.
+fn shape(pool: &[u8]) -> (Edition, usize) {
+    let edition = EDITIONS[usize::from(pool[0]) - 1];
+    (edition, (pool.len() - edition.head()) / PER_PAGE)
 }
 
 const WIPES_WHAT_IS_FREED: Program = Program {
@@ -94,7 +116,8 @@ const WIPES_WHAT_IS_FREED: Program = Program {
     free: |pool, offset| {
         let answer = (SECOND.free)(pool, offset);
         if answer.is_ok() {
-            let at = page_at(pages(pool), 0) + offset as usize;
+            let (edition, pages) = shape(pool);
+            let at = edition.page_at(pages, 0) + offset as usize;
             pool[at..at + 8].fill(0);
         }
         answer
@@ -104,10 +127,10 @@ const WIPES_WHAT_IS_FREED: Program = Program {
 
 const WIPES_THE_TAIL: Program = Program {
     name: "wipes the tail",
-    format: |pool| {
-        let answer = (SECOND.format)(pool);
-        let pages = pages(pool);
-        pool[length(pages)..].fill(0);
+    format: |pool, edition| {
+        let answer = (SECOND.format)(pool, edition);
+        let (edition, pages) = shape(pool);
+        pool[edition.length(pages)..].fill(0);
         answer
     },
     ..SECOND
@@ -172,9 +195,125 @@ const TRIES_NOTHING_FIRST: Program = Program {
     ..SECOND
 };
 
+const LETS_THE_PEAK_FALL: Program = Program {
+    name: "lets the peak fall with a free",
+    free: |pool, offset| {
+        let answer = (SECOND.free)(pool, offset);
+        if answer.is_ok() {
+            change_records(pool, |_, record| set_peak(record, record.used));
+        }
+        answer
+    },
+    ..SECOND
+};
+
+fn set_peak(record: &mut ClassRecord, most: u32) {
+    if let Some(peak) = &mut record.peak {
+        peak.most = most;
+    }
+}
+
+fn peak(record: &ClassRecord) -> u32 {
+    record.peak.map_or(0, |peak| peak.most)
+}
+
+const SETS_THE_PEAK_AT_EVERY_TAKE: Program = Program {
+    name: "sets the peak at every take",
+    alloc: |pool, size| {
+        let answer = (SECOND.alloc)(pool, size);
+        if let (Ok(_), Ok(Need::Chunk(taken))) = (answer, need(size)) {
+            change_records(pool, |class, record| {
+                if class == taken {
+                    set_peak(record, record.used);
+                }
+            });
+        }
+        answer
+    },
+    ..SECOND
+};
+
+const COUNTS_REFUSED_TAKES_IN_THE_PEAK: Program = Program {
+    name: "counts refused takes in the peak",
+    alloc: |pool, size| {
+        let answer = (SECOND.alloc)(pool, size);
+        if let (Err(4), Ok(Need::Chunk(refused))) = (answer, need(size)) {
+            change_records(pool, |class, record| {
+                if class == refused {
+                    set_peak(record, peak(record).max(record.used + 1));
+                }
+            });
+        }
+        answer
+    },
+    ..SECOND
+};
+
+const KEEPS_THE_PEAK_AT_FORMAT: Program = Program {
+    name: "keeps the peak at format",
+    format: |pool, edition| {
+        let layout = Layout::new(edition, pool.len()).expect("a length that holds pages");
+        let record = |class| ClassRecord::read(pool, layout, class);
+        let peaks: Vec<u32> = Class::all().map(|class| peak(&record(class))).collect();
+        let answer = (SECOND.format)(pool, edition);
+        change_records(pool, |class, record| set_peak(record, peaks[class.index()]));
+        answer
+    },
+    ..SECOND
+};
+
+const OVERLOOKS_ZERO_BITS: Program = Program {
+    name: "overlooks the zero bits behind the peak",
+    broken_rule: |pool| {
+        let mut copy = pool.to_vec();
+        change_records(&mut copy, |_, record| {
+            if let Some(peak) = &mut record.peak {
+                peak.zeros = 0;
+            }
+        });
+        (SECOND.broken_rule)(&copy)
+    },
+    alloc: |pool, size| alloc_if((OVERLOOKS_ZERO_BITS.broken_rule)(pool), pool, size),
+    free: |pool, offset| free_if((OVERLOOKS_ZERO_BITS.broken_rule)(pool), pool, offset),
+    ..SECOND
+};
+
+const OVERLOOKS_LOW_PEAKS: Program = Program {
+    name: "overlooks a peak below used",
+    broken_rule: |pool| {
+        let mut copy = pool.to_vec();
+        change_records(&mut copy, |_, record| {
+            set_peak(record, peak(record).max(record.used))
+        });
+        (SECOND.broken_rule)(&copy)
+    },
+    alloc: |pool, size| alloc_if((OVERLOOKS_LOW_PEAKS.broken_rule)(pool), pool, size),
+    free: |pool, offset| free_if((OVERLOOKS_LOW_PEAKS.broken_rule)(pool), pool, offset),
+    ..SECOND
+};
+
+const TAKES_ANY_EDITION_FOR_1: Program = Program {
+    name: "takes any edition but 2 for 1",
+    broken_rule: |pool| as_edition_1(&mut pool.to_vec(), |pool| (SECOND.broken_rule)(pool)),
+    alloc: |pool, size| as_edition_1(pool, |pool| (SECOND.alloc)(pool, size)),
+    free: |pool, offset| as_edition_1(pool, |pool| (SECOND.free)(pool, offset)),
+    ..SECOND
+};
+
+fn as_edition_1<T>(pool: &mut [u8], call: impl Fn(&mut [u8]) -> T) -> T {
+    let first = pool[0];
+    if first != 2 {
+        pool[0] = 1;
+    }
+    let answer = call(pool);
+    pool[0] = first;
+    answer
+}
+
 /// Finds the double out and answers what would be printed.
 fn found(double: Program, other: Program) -> Found {
     let plans = (0..1_000).map(|seed| Plan {
+        edition: EDITIONS[seed as usize / 2 % 2],
         damaging: seed % 2 == 1,
         ..Plan::new(seed, 1 + seed as usize % 16, 300)
     });
@@ -200,13 +339,20 @@ fn every_double_is_caught_in_a_handful_of_calls() {
         (TAKES_NOTHING_FOR_ONE, "at 64, where the live blocks say"),
         (COUNTS_NOTHING, "a refused call changed the pool"),
         (TRIES_NOTHING_FIRST, "though the records are unsound"),
+        (LETS_THE_PEAK_FALL, "the pool shows other peaks than"),
+        (SETS_THE_PEAK_AT_EVERY_TAKE, "the pool shows other peaks"),
+        (COUNTS_REFUSED_TAKES_IN_THE_PEAK, "a refused call changed"),
+        (KEEPS_THE_PEAK_AT_FORMAT, "the pool shows other peaks than"),
+        (OVERLOOKS_ZERO_BITS, "though the records are unsound"),
+        (OVERLOOKS_LOW_PEAKS, "though the records are unsound"),
+        (TAKES_ANY_EDITION_FOR_1, "though the records are unsound"),
     ] {
         let different = found(double, SECOND);
         let alone = found(double, double);
         for found in [&different, &alone] {
             println!("{found}\n");
-            assert!(found.lines.len() <= 4, "{found}");
-            assert!(found.case.setting.pages <= 2, "{found}");
+            assert!(found.lines.len() <= 6, "{found}");
+            assert!(found.case.setting.pages <= 3, "{found}");
         }
         let (_, outcome) = alone.lines.last().expect("some turn");
         assert!(outcome.contains(told), "{alone}");
@@ -232,6 +378,7 @@ fn what_is_printed() {
     let case = Case {
         setting: Setting {
             seed: 5,
+            edition: TWO,
             pages: 12,
             tail: 100,
             scrambled: true,
@@ -240,7 +387,7 @@ fn what_is_printed() {
     };
     let found = Found::shrunk([BELIEVES_A_SECOND_FREE, SECOND], case);
     let expected = "\
-pages 1, tail 0, seed 5, callers' bytes kept between calls
+edition 1, pages 1, tail 0, seed 5, callers' bytes kept between calls
     alloc 1: at 64
     alloc 1: at 72
     free 72: back 8

@@ -6,8 +6,10 @@ use std::fmt;
 use std::ops::Range;
 
 use reference::layout::{set_word, word, ClassRecord};
-use reference::{live_blocks, need, shown, Call, Class, LiveSet, Need, View};
-use support::{callers_bytes, length, page_at, Rng, HEAD, HEADER, RECORD};
+use reference::{
+    live_blocks, need, peaks, shown, Call, Class, Layout, LiveSet, Need, Peaks, View, CLASSES,
+};
+use support::{Edition, Rng, HEADER, RECORD, TWO};
 
 use crate::case::{Case, Setting, Turn};
 use crate::program::Program;
@@ -55,6 +57,8 @@ pub struct Game {
     live: Option<LiveSet>,
     /// What the live blocks made the pool show when they were last known.
     view: View,
+    /// What they and those before made it show so in edition 2.
+    peaks: Peaks,
     /// The blocks by the turn that took them.
     taken: HashMap<usize, u32>,
 }
@@ -63,7 +67,8 @@ impl Game {
     pub fn new(programs: [Program; 2], setting: Setting) -> Result<Game, Wrong> {
         // Pools begin at any alignment.
         let start = GUARD + setting.seed as usize % 8;
-        let pool = start..start + length(setting.pages) + setting.tail;
+        let length = setting.edition.length(setting.pages);
+        let pool = start..start + length + setting.tail;
         let bytes = Rng::new(setting.seed).bytes(pool.end + GUARD);
         let live = LiveSet::new(setting.pages as u32);
         let mut game = Game {
@@ -74,10 +79,12 @@ impl Game {
             pool,
             view: live.expected(),
             live: Some(live),
+            peaks: Peaks::new([0; CLASSES]),
             taken: HashMap::new(),
         };
         let pages = setting.pages as u32;
-        let answers = game.on_both(|program, pool| (program.format)(pool));
+        let edition = setting.edition.number;
+        let answers = game.on_both(|program, pool| (program.format)(pool, edition));
         if answers != [Ok(pages); 2] {
             return Err(format!("{answers:?}"));
         }
@@ -85,6 +92,20 @@ impl Game {
         game.callers_bytes_are_kept(&game.view)?;
         game.pool_shows_the_view()?;
         Ok(game)
+    }
+
+    pub fn edition(&self) -> Edition {
+        self.setting.edition
+    }
+
+    pub fn pages(&self) -> usize {
+        self.setting.pages
+    }
+
+    /// Where the records lie, whatever became of the first byte.
+    pub fn layout(&self) -> Layout {
+        let layout = Layout::new(self.edition().number, self.pool.len());
+        layout.expect("an edition, and a length that holds pages")
     }
 
     /// Whether the records are sound.
@@ -156,6 +177,7 @@ impl Game {
         });
         if let Some(live) = &self.live {
             self.view = live.expected();
+            self.peaks = Peaks::new(peaks(self.pool()).unwrap_or_default());
             self.pool_shows_the_view()?;
         }
         Ok(Event::Broken(rules[0]))
@@ -195,10 +217,11 @@ impl Game {
         let pages = self.setting.pages;
         let mut rng = Rng::new(self.setting.seed.wrapping_mul(1_000_003) + number as u64);
         let count = if rng.once_in(50) { pages } else { 2 };
-        let tail = length(pages)..length(pages) + self.setting.tail;
+        let edition = self.edition();
+        let tail = edition.length(pages)..self.pool.len();
         let places = (0..count).map(|_| {
             let page = rng.below(pages as u64) as usize;
-            callers_bytes(pages, page, self.map_bytes(page))
+            edition.callers_bytes(pages, page, self.map_bytes(page))
         });
         let ranges: Vec<_> = places.chain([tail]).collect();
         let [left, right] = &mut self.bytes;
@@ -231,6 +254,7 @@ impl Game {
         let view = live.expected();
         self.callers_bytes_are_kept(&view)?;
         self.view = view;
+        self.peaks.note(&live);
         self.live = Some(live);
         self.pool_shows_the_view()
     }
@@ -253,11 +277,12 @@ impl Game {
     fn only_tallies_changed(&mut self, call: Call, refusal: u8) -> Result<(), Wrong> {
         if let (Call::Alloc(size), 4) = (call, refusal) {
             if let Ok(Need::Chunk(class)) = need(size) {
+                let layout = self.layout();
                 let pool = &mut self.before[self.pool.clone()];
-                let mut record = ClassRecord::read(pool, class);
+                let mut record = ClassRecord::read(pool, layout, class);
                 record.reqs = record.reqs.saturating_add(1);
                 record.fails = record.fails.saturating_add(1);
-                record.write(pool, class);
+                record.write(pool, layout, class);
             }
         }
         self.same(
@@ -275,10 +300,11 @@ impl Game {
         let start = self.pool.start;
         let inside = (0..pages).map(|page| {
             let map = self.map_bytes(page).max(map_bytes(after.classes[page]));
-            let bytes = callers_bytes(pages, page, map);
+            let bytes = self.edition().callers_bytes(pages, page, map);
             start + bytes.start..start + bytes.end
         });
-        let outside = [0..start, start + length(pages)..self.before.len()];
+        let tail = start + self.edition().length(pages);
+        let outside = [0..start, tail..self.before.len()];
         inside.chain(outside).try_for_each(|range| {
             self.same(
                 &self.before,
@@ -289,7 +315,8 @@ impl Game {
         })
     }
 
-    /// The records are sound, and the five that they show are the view's.
+    /// The records are sound, the five that they show are the view's, and in
+    /// edition 2 the peaks are the largest used so far.
     fn pool_shows_the_view(&self) -> Result<(), Wrong> {
         for (program, bytes) in self.programs.iter().zip(&self.bytes) {
             let rule = (program.broken_rule)(&bytes[self.pool.clone()]);
@@ -297,9 +324,9 @@ impl Game {
                 return Err(format!("broken rule {rule}, says {}", program.name));
             }
         }
-        let shown = shown(self.pool()).ok_or("the length holds no pool")?;
+        let shown = shown(self.pool()).ok_or("edition and length hold no pool")?;
         if shown == self.view {
-            return Ok(());
+            return self.pool_shows_the_peaks();
         }
         let view = &self.view;
         let parts = [
@@ -318,6 +345,15 @@ impl Game {
         Err(format!(
             "the pool shows other {wrong} than the live blocks say"
         ))
+    }
+
+    fn pool_shows_the_peaks(&self) -> Result<(), Wrong> {
+        let due = (self.edition() == TWO).then(|| self.peaks.by_class());
+        if peaks(self.pool()) == due {
+            Ok(())
+        } else {
+            Err("the pool shows other peaks than the live blocks had".into())
+        }
     }
 
     fn same(
@@ -343,22 +379,23 @@ impl Game {
         let Some(byte) = at.checked_sub(self.pool.start) else {
             return "a byte before the pool".into();
         };
-        let first = page_at(pages, 0);
+        let edition = self.edition();
+        let (head, first) = (edition.head(), edition.page_at(pages, 0));
         match byte {
             0..HEADER => format!("byte {byte} of the header"),
-            HEADER..HEAD => format!(
+            _ if byte < head => format!(
                 "byte {} of class record {}",
-                (byte - HEADER) % RECORD,
-                (byte - HEADER) / RECORD
+                (byte - HEADER) % edition.class_record,
+                (byte - HEADER) / edition.class_record
             ),
             _ if byte < first => {
                 format!(
                     "byte {} of page record {}",
-                    (byte - HEAD) % RECORD,
-                    (byte - HEAD) / RECORD
+                    (byte - head) % RECORD,
+                    (byte - head) / RECORD
                 )
             }
-            _ if byte < length(pages) => format!("offset {}", byte - first),
+            _ if byte < edition.length(pages) => format!("offset {}", byte - first),
             _ if at < self.pool.end => "a byte of the tail".into(),
             _ => "a byte behind the pool".into(),
         }

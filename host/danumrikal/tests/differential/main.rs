@@ -1,8 +1,8 @@
 //! The proved pool and the second program side by side: answers and every byte
-//! after each call, on sound and on damaged pools. And the live blocks, told by
-//! calls and answers alone while callers' bytes and the tail become others
-//! before each call: they say what the pool shows and how the next call is
-//! ruled. A game that goes wrong is shrunk and printed as a list of calls.
+//! after each call, on sound and on damaged pools of both editions. And the live
+//! blocks, told by calls and answers alone while callers' bytes and the tail
+//! become others before each call: they say what the pool shows, peaks too, and
+//! how the next call is ruled. A game that goes wrong is shrunk and printed as a list of calls.
 //!
 //! The seeds are fixed. More games, with further seeds, here ten times as many:
 //!
@@ -21,7 +21,7 @@ mod shrink;
 
 use player::{play_all, Plan, Seen};
 use program::{PROVED, SECOND};
-use support::{length, Habit, Rng, HEAD, SHORTEST};
+use support::{Habit, Rng, EDITIONS};
 
 /// Every page count up to here is played; `tests/scale.rs` has larger pools.
 const MANY_PAGES: usize = 256;
@@ -34,8 +34,10 @@ fn times() -> u64 {
     }
 }
 
-/// Plays the proved pool against the second program; at least so many calls.
+/// Plays the proved pool against the second program, each game in both editions;
+/// at least so many calls.
 fn compare(calls: u64, plans: impl Iterator<Item = Plan>) -> Seen {
+    let plans = plans.flat_map(|plan| EDITIONS.map(|edition| Plan { edition, ..plan }));
     match play_all([PROVED, SECOND], plans) {
         Ok(seen) => {
             println!("{seen:?}");
@@ -50,7 +52,7 @@ fn compare(calls: u64, plans: impl Iterator<Item = Plan>) -> Seen {
 fn every_page_count() {
     let games = 0..MANY_PAGES as u64 * times();
     let seen = compare(
-        30_000,
+        60_000,
         games.map(|game| Plan::new(game, 1 + game as usize % MANY_PAGES, 100)),
     );
     assert_eq!(seen.refused[3], 0);
@@ -62,7 +64,7 @@ fn every_page_count() {
 fn small_pools_fill_break_into_pieces_and_empty() {
     let games = 0..300 * times();
     let seen = compare(
-        120_000,
+        240_000,
         games.map(|game| Plan::new(10_000_000 + game, 1 + game as usize % 12, 400)),
     );
     assert_eq!(seen.refused[3], 0);
@@ -75,7 +77,7 @@ fn small_pools_fill_break_into_pieces_and_empty() {
 fn pages_of_one_class_fill() {
     let games = 0..18 * times();
     let seen = compare(
-        35_000,
+        70_000,
         games.map(|game| Plan {
             habit: Some(Habit {
                 favourite: 8 << (game % 9),
@@ -92,7 +94,7 @@ fn large_pools_break_into_pieces() {
     let kinds = [(64, 4_096), (130, 64), (255, 8_192), (256, 2_048)];
     let games = (0..4 * times()).zip(kinds.into_iter().cycle());
     let seen = compare(
-        10_000,
+        20_000,
         games.map(|(game, (pages, favourite))| Plan {
             habit: Some(Habit {
                 favourite,
@@ -108,7 +110,7 @@ fn large_pools_break_into_pieces() {
 fn damaged_pools_are_validated_alike_and_stay_whole() {
     let games = 0..300 * times();
     let seen = compare(
-        40_000,
+        80_000,
         games.map(|game| {
             let few = 1 + game as usize % 9;
             let pages = if game % 50 == 0 { 256 } else { few };
@@ -124,18 +126,50 @@ fn damaged_pools_are_validated_alike_and_stay_whole() {
 
 #[test]
 fn any_bytes_are_answered() {
-    let ends = [HEAD, SHORTEST, length(2)].map(|len| [len - 1, len]);
-    let lengths = [0, 1, 7, 8, length(12)].into_iter();
-    for len in lengths.chain(ends.into_iter().flatten()) {
+    let ends = EDITIONS.map(|edition| [edition.head(), edition.shortest(), edition.length(2)]);
+    let ends = ends.into_iter().flatten().flat_map(|len| [len - 1, len]);
+    let whole = EDITIONS.map(|edition| edition.length(12));
+    for len in [0, 1, 7, 8].into_iter().chain(whole).chain(ends) {
         let random = Rng::new(len as u64).bytes(len);
-        for mut bytes in [vec![0x00; len], vec![0xff; len], vec![0x55; len], random] {
-            let rule = (PROVED.broken_rule)(&bytes);
-            assert_eq!(rule, reference::broken_rule(&bytes), "length {len}");
-            let before = bytes.clone();
-            assert_eq!((PROVED.alloc)(&mut bytes, 1), Err(3), "length {len}");
-            assert_eq!((PROVED.alloc)(&mut bytes, 0), Err(3), "length {len}");
-            assert_eq!((PROVED.free)(&mut bytes, 0), Err(3), "length {len}");
-            assert!(bytes == before, "length {len}");
+        let filled = [0x00, 0x01, 0x02, 0xff, 0x55].map(|byte| vec![byte; len]);
+        let begun = [1, 2].map(|edition| {
+            let mut bytes = random.clone();
+            bytes.iter_mut().take(1).for_each(|first| *first = edition);
+            bytes
+        });
+        for mut bytes in filled.into_iter().chain(begun).chain([random]) {
+            refused_alike(&mut bytes, &format!("length {len}"));
+        }
+    }
+}
+
+/// Both programs name the same broken rule, and no call changes the bytes.
+fn refused_alike(bytes: &mut [u8], what: &str) {
+    let rule = (PROVED.broken_rule)(bytes);
+    assert_eq!(rule, reference::broken_rule(bytes), "{what}");
+    assert_ne!(rule, 0, "{what}");
+    let before = bytes.to_vec();
+    assert_eq!((PROVED.alloc)(bytes, 1), Err(3), "{what}");
+    assert_eq!((PROVED.alloc)(bytes, 0), Err(3), "{what}");
+    assert_eq!((PROVED.free)(bytes, 0), Err(3), "{what}");
+    assert!(bytes == before, "{what}");
+}
+
+/// The edition is told by the first byte, before anything else: with another
+/// edition's number in it the rest means something else.
+#[test]
+fn every_first_byte() {
+    for edition in EDITIONS {
+        // With a tail of 0, and with one that holds as many pages in the other.
+        for (pages, tail) in [(1, 0), (12, 0), (1, 72), (12, 72), (12, 4_111)] {
+            let mut pool = vec![0; edition.length(pages) + tail];
+            assert_eq!((SECOND.format)(&mut pool, edition.number), Ok(pages as u32));
+            assert_eq!((SECOND.alloc)(&mut pool, 64), Ok(0));
+            for first in (0..=255).filter(|first| *first != edition.number) {
+                pool[0] = first;
+                let what = format!("edition {}, {pages} pages, {first}", edition.number);
+                refused_alike(&mut pool, &what);
+            }
         }
     }
 }

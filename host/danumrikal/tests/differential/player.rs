@@ -4,7 +4,7 @@ use std::fmt;
 use std::ops::AddAssign;
 
 use reference::{need, Need};
-use support::{Habit, Rng, PER_PAGE};
+use support::{Edition, Habit, Rng, ONE, PER_PAGE};
 
 use crate::case::{Case, Setting, Turn};
 use crate::damage::damage;
@@ -16,6 +16,7 @@ use crate::shrink::shrink;
 #[derive(Clone, Copy)]
 pub struct Plan {
     pub seed: u64,
+    pub edition: Edition,
     pub pages: usize,
     pub turns: usize,
     /// The habit from beginning to end; else it changes now and then.
@@ -25,10 +26,11 @@ pub struct Plan {
 }
 
 impl Plan {
-    /// Any habits, nothing damaged.
+    /// Any habits, nothing damaged, in edition 1.
     pub fn new(seed: u64, pages: usize, turns: usize) -> Plan {
         Plan {
             seed,
+            edition: ONE,
             pages,
             turns,
             habit: None,
@@ -139,7 +141,7 @@ impl Player {
             self.habit = Habit::any(rng);
         }
         if self.plan.damaging && self.planned.is_empty() && rng.once_in(8) {
-            self.planned = damage(rng, self.plan.pages, game);
+            self.planned = damage(rng, game);
         }
         if let Some(damage) = self.planned.pop() {
             self.damage.push(damage);
@@ -184,6 +186,7 @@ fn play(programs: [Program; 2], plan: Plan) -> Result<Seen, Case> {
     let mut rng = Rng::new(plan.seed);
     let setting = Setting {
         seed: plan.seed,
+        edition: plan.edition,
         pages: plan.pages,
         tail: rng.below(PER_PAGE as u64) as usize,
         scrambled: true,

@@ -1,10 +1,11 @@
-use danumrikal::{check, Offset, Pool};
+use danumrikal::{check, Edition, Offset, Pool};
 
 /// A program that keeps pools. Refusals are told by their numbers.
 #[derive(Clone, Copy)]
 pub struct Program {
     pub name: &'static str,
-    pub format: fn(&mut [u8]) -> Result<u32, u8>,
+    /// Told the edition's number.
+    pub format: fn(&mut [u8], u8) -> Result<u32, u8>,
     pub broken_rule: fn(&[u8]) -> u8,
     pub alloc: fn(&mut [u8], u32) -> Result<u32, u8>,
     pub free: fn(&mut [u8], u32) -> Result<u32, u8>,
@@ -12,7 +13,11 @@ pub struct Program {
 
 pub const PROVED: Program = Program {
     name: "proved",
-    format: |pool| Pool::new(pool).format().map_err(|refusal| refusal.number()),
+    format: |pool, edition| {
+        let edition = Edition::from_number(edition).expect("an edition");
+        let answer = Pool::new(pool).format(edition);
+        answer.map_err(|refusal| refusal.number())
+    },
     broken_rule: |pool| check(pool).err().map_or(0, |rule| rule.number()),
     alloc: |pool, size| match Pool::new(pool).alloc(size) {
         Ok(Offset(offset)) => Ok(offset),
@@ -26,7 +31,10 @@ pub const PROVED: Program = Program {
 
 pub const SECOND: Program = Program {
     name: "second",
-    format: |pool| reference::format(pool).map_err(|refusal| refusal.number()),
+    format: |pool, edition| {
+        let answer = reference::format(pool, edition);
+        answer.map_err(|refusal| refusal.number())
+    },
     broken_rule: reference::broken_rule,
     alloc: |pool, size| reference::alloc(pool, size).map_err(|refusal| refusal.number()),
     free: |pool, offset| reference::free(pool, offset).map_err(|refusal| refusal.number()),

@@ -1,5 +1,7 @@
 //! Makes a failing case as small as it can.
 
+use support::ONE;
+
 use crate::case::{Case, Turn};
 
 /// A case that still fails: fewer turns first, left out in halves, quarters and
@@ -81,6 +83,7 @@ fn larger_chunks(case: &mut Case, fails: &impl Fn(&Case) -> bool) {
 }
 
 fn smaller_pool(case: &mut Case, fails: &impl Fn(&Case) -> bool) {
+    attempt(case, fails, |case| case.setting.edition = ONE);
     attempt(case, fails, |case| case.setting.scrambled = false);
     attempt(case, fails, |case| case.setting.tail = 0);
     for pages in 1..case.setting.pages {

@@ -1,5 +1,7 @@
 //! Fields of a pool by bit position, read without the crate's own layout.
 
+use support::Edition;
+
 /// Bits before the header's fields.
 pub const EDITION: usize = 0;
 pub const MIN_SHIFT: usize = 8;
@@ -14,6 +16,9 @@ pub const USED: usize = 16;
 pub const TOTAL: usize = 40;
 pub const REQS: usize = 64;
 pub const FAILS: usize = 96;
+/// In edition 2 alone.
+pub const PEAK: usize = 128;
+pub const PEAK_ZEROS: usize = 152;
 
 /// Bits before a page record's fields.
 pub const MAP: usize = 0;
@@ -25,13 +30,13 @@ pub const PREVIOUS: usize = 103;
 pub const ZEROS: usize = 119;
 
 /// The bit at which a class's record begins.
-pub fn class_record(class: usize) -> usize {
-    support::class_record_at(class) * 8
+pub fn class_record(edition: Edition, class: usize) -> usize {
+    edition.class_record_at(class) * 8
 }
 
 /// The bit at which a page's record begins.
-pub fn page_record(page: usize) -> usize {
-    support::page_record_at(page) * 8
+pub fn page_record(edition: Edition, page: usize) -> usize {
+    edition.page_record_at(page) * 8
 }
 
 /// The number in `width` bits from bit `at`, counted from the top of byte 0.

@@ -2,6 +2,7 @@
 //! and with no thought for time or memory. It shares no code with the crate.
 
 use crate::bits;
+use support::{Edition, ONE, TWO};
 
 const CHUNKS: [usize; 9] = [512, 256, 128, 64, 32, 16, 8, 4, 2];
 const OWN: [usize; 9] = [8, 2, 1, 0, 0, 0, 0, 0, 0];
@@ -19,13 +20,13 @@ struct Page {
     marks: Vec<bool>,
 }
 
-fn read_page(bytes: &[u8], pages: usize, page: usize) -> Page {
-    let at = bits::page_record(page);
+fn read_page(bytes: &[u8], edition: Edition, pages: usize, page: usize) -> Page {
+    let at = bits::page_record(edition, page);
     let field = |above, width| bits::get(bytes, at + above, width) as usize;
     let (kind, class) = (field(bits::KIND, 3), field(bits::CLASS, 4));
     let marks = if kind == 2 && class < 9 {
         let map = if class < 3 {
-            8 * support::page_at(pages, page)
+            8 * edition.page_at(pages, page)
         } else {
             at + bits::MAP
         };
@@ -49,20 +50,24 @@ fn read_page(bytes: &[u8], pages: usize, page: usize) -> Page {
 
 /// The first broken rule's number, or 0.
 pub fn broken_rule(bytes: &[u8]) -> u8 {
-    if bytes.len() < 4_264 || bytes.len() >= 16_847_016 {
+    let (edition, shortest, too_long, head) = match bytes.first() {
+        Some(1) => (ONE, 4_264, 16_847_016, 152),
+        Some(2) => (TWO, 4_336, 16_847_088, 224),
+        _ => return 1,
+    };
+    if bytes.len() < shortest || bytes.len() >= too_long {
         return 1;
     }
-    let count = (bytes.len() - 152) / 4_112;
+    let count = (bytes.len() - head) / 4_112;
     let header = |above, width| bits::get(bytes, above, width) as usize;
-    if header(bits::EDITION, 8) != 1
-        || header(bits::MIN_SHIFT, 4) != 3
+    if header(bits::MIN_SHIFT, 4) != 3
         || header(bits::PAGE_SHIFT, 4) != 12
         || header(bits::PAGES, 16) != count
     {
         return 1;
     }
     let pages: Vec<Page> = (0..count)
-        .map(|page| read_page(bytes, count, page))
+        .map(|page| read_page(bytes, edition, count, page))
         .collect();
 
     if !pages_divide(&pages) || !fields_are_as_described(&pages) {
@@ -75,8 +80,9 @@ pub fn broken_rule(bytes: &[u8]) -> u8 {
     }
 
     let full = |page: &Page| page.marks.iter().all(|mark| *mark);
-    let record =
-        |class, above, width| bits::get(bytes, bits::class_record(class) + above, width) as usize;
+    let record = |class, above, width| {
+        bits::get(bytes, bits::class_record(edition, class) + above, width) as usize
+    };
     for class in 0..9 {
         let open = |page: &Page| page.kind == 2 && page.class == class && !full(page);
         if !list_holds(&pages, record(class, bits::CLASS_FIRST, 16), open) {
@@ -105,7 +111,37 @@ pub fn broken_rule(bytes: &[u8]) -> u8 {
             return 6;
         }
     }
+    if edition == TWO {
+        for class in 0..9 {
+            if record(class, bits::PEAK, 24) < record(class, bits::USED, 24)
+                || record(class, bits::PEAK_ZEROS, 40) != 0
+            {
+                return 6;
+            }
+        }
+    }
     0
+}
+
+/// The target after a conversion, or the refusal's number.
+pub fn converted(source: &[u8], target: &[u8]) -> Result<Vec<u8>, u8> {
+    if source.first() != Some(&1) || broken_rule(source) != 0 {
+        return Err(3);
+    }
+    let pages = (source.len() - 152) / 4_112;
+    if target.len() < 224 || (target.len() - 224) / 4_112 != pages {
+        return Err(12);
+    }
+    let mut bytes = vec![2];
+    bytes.extend(&source[1..8]);
+    for record in source[8..152].chunks(16) {
+        bytes.extend(record);
+        bytes.extend(&record[2..5]);
+        bytes.extend([0; 5]);
+    }
+    bytes.extend(&source[152..152 + 4_112 * pages]);
+    bytes.extend(&target[224 + 4_112 * pages..]);
+    Ok(bytes)
 }
 
 /// Every page lies in exactly one run or is a class page, and no two free runs

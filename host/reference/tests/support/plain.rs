@@ -14,6 +14,7 @@ enum Page {
 }
 
 pub struct Plain {
+    edition: u8,
     pages: Vec<Page>,
     /// Free runs, head of the list first: first page and length.
     runs: Vec<(usize, usize)>,
@@ -21,16 +22,20 @@ pub struct Plain {
     lists: [Vec<usize>; 9],
     reqs: [u32; 9],
     fails: [u32; 9],
+    /// The largest used so far, which edition 2 shows.
+    peak: [usize; 9],
 }
 
 impl Plain {
-    pub fn new(pages: usize) -> Plain {
+    pub fn new(edition: u8, pages: usize) -> Plain {
         Plain {
+            edition,
             pages: vec![Page::Free; pages],
             runs: vec![(0, pages)],
             lists: Default::default(),
             reqs: [0; 9],
             fails: [0; 9],
+            peak: [0; 9],
         }
     }
 
@@ -68,7 +73,19 @@ impl Plain {
         if marks.iter().all(|mark| *mark) {
             self.lists[class].remove(0);
         }
+        self.peak[class] = self.peak[class].max(self.used(class));
         Ok((page * 4096 + chunk * (8 << class)) as u32)
+    }
+
+    /// The class's chunks in callers' hands.
+    fn used(&self, class: usize) -> usize {
+        let of_page = |page: &Page| match page {
+            Page::Chunks { class: of, marks } if *of == class => {
+                marks.iter().filter(|mark| **mark).count() - OWN[class]
+            }
+            _ => 0,
+        };
+        self.pages.iter().map(of_page).sum()
     }
 
     /// The bytes released or the refusal's number.
@@ -131,6 +148,12 @@ impl Plain {
         self.runs.insert(0, (first, whole));
     }
 
+    /// Makes a pool of edition 1 one of edition 2.
+    pub fn convert(&mut self) {
+        self.edition = 2;
+        self.peak = [0, 1, 2, 3, 4, 5, 6, 7, 8].map(|class| self.used(class));
+    }
+
     /// The pages whose map lies in the page itself, and that map's bytes.
     pub fn maps_in_pages(&self) -> impl Iterator<Item = (usize, Vec<u8>)> + '_ {
         self.pages
@@ -157,25 +180,27 @@ impl Plain {
         let free: usize = self.runs.iter().map(|run| run.1).sum();
         let first = self.runs.first().map_or(NONE, |run| run.0);
         let header =
-            0x013C << 48 | (self.pages.len() as u64) << 32 | (free as u64) << 16 | first as u64;
+            0x3C << 48 | (self.pages.len() as u64) << 32 | (free as u64) << 16 | first as u64;
         let mut bytes = header.to_be_bytes().to_vec();
+        bytes[0] = self.edition;
 
-        let mut used = [0; 9];
         let mut total = [0; 9];
         for page in &self.pages {
-            if let Page::Chunks { class, marks } = page {
-                used[*class] += marks.iter().filter(|mark| **mark).count() - OWN[*class];
+            if let Page::Chunks { class, .. } = page {
                 total[*class] += CHUNKS[*class] - OWN[*class];
             }
         }
-        for class in 0..9 {
+        for (class, total) in total.into_iter().enumerate() {
             let first = self.lists[class].first().map_or(NONE, |page| *page);
             let record = (first as u128) << 112
-                | (used[class] as u128) << 88
-                | (total[class] as u128) << 64
+                | (self.used(class) as u128) << 88
+                | (total as u128) << 64
                 | (self.reqs[class] as u128) << 32
                 | self.fails[class] as u128;
             bytes.extend(record.to_be_bytes());
+            if self.edition == 2 {
+                bytes.extend(((self.peak[class] as u64) << 40).to_be_bytes());
+            }
         }
 
         let record = |map: u64, kind: u128, class: usize, run: usize, next: usize, back: usize| {

@@ -10,7 +10,7 @@ use crate::class::{map_words, CLASSES, FIRST_IN_RECORD, FULL};
 use crate::map::is_full;
 
 /// The number of the first rule of soundness, 1 to 6, that the slice breaks,
-/// or 0 when it is sound.
+/// or 0 when it is sound. Any edition but 1 breaks rule 1 here.
 pub fn broken_rule(bytes: &[u8]) -> u8 {
     let pages = page_count(bytes.len());
     let pool = pages.ok().and_then(|pages| View::split(bytes, pages));

@@ -1,0 +1,1 @@
+pub mod Mirror  -- the peak of a class, raised

@@ -1,0 +1,1 @@
+pub mod Laws  -- which bytes are laid, and which stay

@@ -1,0 +1,1 @@
+pub mod Lay  -- bytes of one list laid over another

@@ -1,0 +1,1 @@
+pub mod Widths  -- the width that the first byte tells
