@@ -41,7 +41,7 @@ module _ (s : List ℕ) (B : Bytes s) where
     links-copied x =
         let two = none-broken 2 s sound .1 .two in
         write-ext (linksPlace 3) P _ _ x
-        (λ p h. sym (pack-unpack-links _ (word-small s (linksPlace 2 p) B) (rule2-says (fieldsOf 2 s) P two .spare p h)))
+        (λ p h. sym (pack-unpack-links _ (word-small s (linksPlace 2 p) B) (rule2-says (fieldsOf 2 s) P two .links .spare p h)))
 
     peaks-set : (x : List ℕ) → peaksSet s x ≡ withPeaks 3 (λ c. classAt 2 s c .used) x
     unfolding peaksSet

@@ -120,7 +120,7 @@ module _ (w : ℕ) (wide : 2 ≤ w) (narrow : w ≤ 255) (s : List ℕ) (B : Byt
       let (one, H, p) = none-broken w s e in
       rw (mapped-read w s B)
       (sym (paint-ext w (pagesIn w s) (imageOf w s) (stateImage (read w s)) s (image one H))
-      ∙ paint-back w s B (rule1-says w s one) (λ p h. unfold fieldsOf in rule2-says (fieldsOf w s) (pagesIn w s) (H .two) .spare p h))
+      ∙ paint-back w s B (rule1-says w s one) (λ p h. unfold fieldsOf in rule2-says (fieldsOf w s) (pagesIn w s) (H .two) .links .spare p h))
     where
       image : rule1 w s ≡ true → Holds (fieldsOf w s) (pagesIn w s) → Same (pagesIn w s) (imageOf w s) (stateImage (read w s))
       image one H = unfold stateFields fieldsOf in fields-drawn (some-pages one) (few-pages one) H (fields-bounds w s B) .image-same

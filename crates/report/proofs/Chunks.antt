@@ -108,7 +108,7 @@ module _ (s : List ℕ) (n : ℕ) (S : Sound s n) (p : ℕ) (h : p < n) where
   pub class-small : (l : Links) → l ≡ linksAt 2 s p → l .kind ≡ 2 → l .class ≤ 8
   unfolding fieldsOf imageOf
   class-small l e k =
-      rw e (judged 2 s .sound .0 (S .rules) .1 .kind2 p inside (sym (ap (λ (x : Links). x .kind) e) ∙ k) .in-range)
+      rw e (judged 2 s .sound .0 (S .rules) .1 .shape .kind2 p inside (sym (ap (λ (x : Links). x .kind) e) ∙ k) .in-range)
 
   pub page-does : (l : Links) (u v : List ℕ) (k r : ℕ) → l ≡ linksAt 2 s p →
       Prints u v k r (linesOf blockLine (blocksOn (pageOf (l .kind) (l .class) (l .run) (markAt 2 s p (l .class))) p)) →

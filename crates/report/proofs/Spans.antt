@@ -63,7 +63,7 @@ by-kind (suc (suc (suc (suc (suc k))))) p c len m h =
 
 module _ (s : List ℕ) (n : ℕ) (S : Sound s n) (p : ℕ) (h : p < pagesIn 2 s) where
   run-some : kind (fieldsOf 2 s) p ≡ 1 → 1 ≤ run (fieldsOf 2 s) p
-  run-some e = judged 2 s .sound .0 (S .rules) .1 .kind1 p h e .fits .some-page
+  run-some e = judged 2 s .sound .0 (S .rules) .1 .shape .kind1 p h e .fits .some-page
 
   free-is : shown (read 2 s) .freeRun p ≡ pick (eqb (kind (fieldsOf 2 s) p) 1) (run (fieldsOf 2 s) p) 0
   unfolding shownBy fieldView isHead pick

@@ -17,7 +17,7 @@ use Rattle.model.specs.State.{Page, isOpen}
 use Rattle.model.specs.View.{usedOf, shown}
 use Rattle.rules.specs.Fields.{Fields, kind, class, run, next, prev, map, first, pageOf, pageAt}
 use Rattle.rules.specs.Read.{trail, isHead, openAt, headsOf, listOf, withLengths, tallyOf, readFields}
-use Rattle.rules.specs.Rules.{kindAt, kindFrom, runFits, insideFree, endsFree, lastBack, freeRun, firstFree, mapFits, classWith, classPage, endsTaken, takenRun, firstTaken, insideTaken, byKind, rule2At, rule2, linked, rule3, classList, fullAlone, rule4, rule5, freeIn, countsFit, rule6}
+use Rattle.rules.specs.Rules.{kindAt, kindFrom, runFits, insideFree, endsFree, freeRun, firstFree, mapFits, classWith, classPage, endsTaken, takenRun, firstTaken, insideTaken, byKind, shapeAt, insideLinks, lastBack, noLinks, linksFitAt, rule2At, rule2, linked, rule3, classList, fullAlone, rule4, rule5, freeIn, countsFit, rule6}
 use Rattle.rules.specs.Plain.{Head, Open}
 use Rattle.rules.specs.Agree.{Agree}
 use Rattle.rules.proofs.Linked.{linked-same, trail-same}
@@ -89,18 +89,14 @@ module _ {n : ℕ} {v u : Fields} (few : n ≤ noPage) (A : Agree n v u) where
   prev-is : (p k : ℕ) → p < n → eqb (prev v p) k ≡ eqb (prev u p) k
   prev-is p k h = ap (λ (x : ℕ). eqb x k) (prev-same p h)
 
-  inside-free-same : (p : ℕ) → p < n → insideFree v n p ≡ insideFree u n p
-  unfolding insideFree kindAt
+  inside-free-same : (p : ℕ) → p < n → insideFree v p ≡ insideFree u p
+  unfolding insideFree
   inside-free-same p h =
       all-of-same _ _ _ _ (class-is p 0 h) (λ t.
       all-of-same _ _ _ _ (run-is p 0 h) (λ t.
       all-of-same _ _ _ _ (map-is p 0 h) (λ t.
-      all-of-same _ _ _ _ (next-is p noPage h) (λ t.
       all-of-same _ _ _ _ refl (λ s.
-      all-of-same _ _ _ _ (ap (λ (k : ℕ). leb k 1) (kind-same (p - 1) (omega arith))) (λ t.
-      all-of-same _ _ _ _
-      (pick-same _ _ (pick-same _ _ refl (λ w. ap (λ (k : ℕ). eqb k 0) (kind-same (p + 1) (ltb-true _ _ w))) (λ w. refl)) (λ w. prev-is p noPage h) (λ w. refl))
-      (λ t. refl)))))))
+      all-of-same _ _ _ _ (ap (λ (k : ℕ). leb k 1) (kind-same (p - 1) (omega arith))) (λ t. refl)))))
 
   ends-free-same : (x : ℕ) → endsFree v n x ≡ endsFree u n x
   unfolding endsFree
@@ -111,14 +107,12 @@ module _ {n : ℕ} {v u : Fields} (few : n ≤ noPage) (A : Agree n v u) where
   ends-taken-same x = pick-same _ _ refl (λ w. rw (kind-same x (ltb-true _ _ w))) (λ w. refl)
 
   first-free-same : (p : ℕ) → p < n → firstFree v n p ≡ firstFree u n p
-  unfolding firstFree freeRun lastBack
+  unfolding firstFree freeRun
   first-free-same p h =
       all-of-same _ _ _ _ (class-is p 0 h) (λ t.
       all-of-same _ _ _ _ (map-is p 0 h) (λ t.
-      all-of-same _ _ _ _ (fits-same p (run v p) 0) (λ f.
-      let (s, w) = fits-within p (run v p) 0 f in
-      all-of-same _ _ _ _ (ends-free-same (p + run v p)) (λ t.
-      all-of-same _ _ _ _ (pick-same _ _ refl (λ _. prev-is (p + run v p - 1) p (omega arith)) (λ _. refl)) (λ t. refl)))))
+      all-of-same _ _ _ _ (fits-same p (run v p) 0) (λ t.
+      all-of-same _ _ _ _ (ends-free-same (p + run v p)) (λ t. refl))))
       ∙ ap (freeRun u n p) (run-same p h)
 
   class-page-same : (p : ℕ) → p < n → kind v p ≡ 2 → classPage v p ≡ classPage u p
@@ -135,10 +129,8 @@ module _ {n : ℕ} {v u : Fields} (few : n ≤ noPage) (A : Agree n v u) where
   first-taken-same p h =
       all-of-same _ _ _ _ (class-is p 0 h) (λ t.
       all-of-same _ _ _ _ (map-is p 0 h) (λ t.
-      all-of-same _ _ _ _ (next-is p noPage h) (λ t.
-      all-of-same _ _ _ _ (prev-is p noPage h) (λ t.
       all-of-same _ _ _ _ (fits-same p (run v p) 4) (λ t.
-      all-of-same _ _ _ _ (ends-taken-same (p + run v p)) (λ t. refl))))))
+      all-of-same _ _ _ _ (ends-taken-same (p + run v p)) (λ t. refl))))
       ∙ ap (takenRun u n p) (run-same p h)
 
   inside-taken-same : (p : ℕ) → p < n → insideTaken v p ≡ insideTaken u p
@@ -147,10 +139,27 @@ module _ {n : ℕ} {v u : Fields} (few : n ≤ noPage) (A : Agree n v u) where
       all-of-same _ _ _ _ (class-is p 0 h) (λ t.
       all-of-same _ _ _ _ (run-is p 0 h) (λ t.
       all-of-same _ _ _ _ (map-is p 0 h) (λ t.
-      all-of-same _ _ _ _ (next-is p noPage h) (λ t.
-      all-of-same _ _ _ _ (prev-is p noPage h) (λ t.
       all-of-same _ _ _ _ refl (λ s.
-      all-of-same _ _ _ _ (ap (λ (k : ℕ). ltb 2 k) (kind-same (p - 1) (omega arith))) (λ t. refl)))))))
+      all-of-same _ _ _ _ (ap (λ (k : ℕ). ltb 2 k) (kind-same (p - 1) (omega arith))) (λ t. refl)))))
+
+  inside-links-same : (p : ℕ) → p < n → insideLinks v n p ≡ insideLinks u n p
+  unfolding insideLinks kindAt
+  inside-links-same p h =
+      pick-same _ _ (next-is p noPage h)
+      (λ t.
+      pick-same _ _ (pick-same _ _ refl (λ w. ap (λ (k : ℕ). eqb k 0) (kind-same (p + 1) (ltb-true _ _ w))) (λ w. refl)) (λ w. prev-is p noPage h) (λ w. refl))
+      (λ t. refl)
+
+  -- where the run fits
+  last-back-same : (p : ℕ) → p < n → firstFree v n p ≡ true → lastBack v p (run v p) ≡ lastBack u p (run u p)
+  unfolding firstFree freeRun lastBack
+  last-back-same p h e =
+      let (s, w) = fits-within p (run v p) 0 (each-of _ e .1 .1 .0) in
+      pick-same _ _ refl (λ _. prev-is (p + run v p - 1) p (omega arith)) (λ _. refl) ∙ ap (lastBack u p) (run-same p h)
+
+  no-links-same : (p : ℕ) → p < n → noLinks v p ≡ noLinks u p
+  unfolding noLinks
+  no-links-same p h = pick-same _ _ (next-is p noPage h) (λ t. prev-is p noPage h) (λ t. refl)
 
   by-kind-same : (k : ℕ) {a b c d e a′ b′ c′ d′ e′ : Bool} → a ≡ a′ → b ≡ b′ → (k ≡ 2 → c ≡ c′) → d ≡ d′ → e ≡ e′ → byKind k a b c d e ≡ byKind k a′ b′ c′ d′ e′
   by-kind-same zero p q r s t = p
@@ -160,15 +169,35 @@ module _ {n : ℕ} {v u : Fields} (few : n ≤ noPage) (A : Agree n v u) where
   by-kind-same (suc (suc (suc (suc zero)))) p q r s t = t
   by-kind-same (suc (suc (suc (suc (suc k))))) p q r s t = refl
 
+  shape-same : (p : ℕ) → p < n → shapeAt v n p ≡ shapeAt u n p
+  unfolding shapeAt
+  shape-same p h =
+      by-kind-same (kind v p) (inside-free-same p h) (first-free-same p h) (class-page-same p h) (first-taken-same p h) (inside-taken-same p h)
+      ∙ ap (λ (k : ℕ). byKind k (insideFree u p) (firstFree u n p) (classPage u p) (firstTaken u n p) (insideTaken u p)) (kind-same p h)
+
+  links-fit-same : (p : ℕ) → p < n → shapeAt v n p ≡ true → linksFitAt v n p ≡ linksFitAt u n p
+  unfolding shapeAt linksFitAt
+  links-fit-same p h e =
+      pick-same _ _ (rw (A .spare p h))
+      (λ w.
+      by-kind-links (kind v p) e
+      ∙ ap (λ (k : ℕ). byKind k (insideLinks u n p) (lastBack u p (run u p)) true (noLinks u p) (noLinks u p)) (kind-same p h))
+      (λ w. refl)
+    where
+      by-kind-links : (k : ℕ) → byKind k (insideFree v p) (firstFree v n p) (classPage v p) (firstTaken v n p) (insideTaken v p) ≡ true
+          → byKind k (insideLinks v n p) (lastBack v p (run v p)) true (noLinks v p) (noLinks v p)
+          ≡ byKind k (insideLinks u n p) (lastBack u p (run u p)) true (noLinks u p) (noLinks u p)
+      by-kind-links zero e = inside-links-same p h
+      by-kind-links (suc zero) e = last-back-same p h e
+      by-kind-links (suc (suc zero)) e = refl
+      by-kind-links (suc (suc (suc zero))) e = no-links-same p h
+      by-kind-links (suc (suc (suc (suc zero)))) e = no-links-same p h
+      by-kind-links (suc (suc (suc (suc (suc k))))) e = refl
+
   pub agree-rule2 : rule2 v n ≡ rule2 u n
   unfolding rule2 rule2At
   agree-rule2 =
-      all-same (rule2At v n) (rule2At u n) n (λ p h.
-      pick-same _ _ (rw (A .spare p h))
-      (λ w.
-      by-kind-same (kind v p) (inside-free-same p h) (first-free-same p h) (class-page-same p h) (first-taken-same p h) (inside-taken-same p h)
-      ∙ ap (λ (k : ℕ). byKind k (insideFree u n p) (firstFree u n p) (classPage u p) (firstTaken u n p) (insideTaken u p)) (kind-same p h))
-      (λ w. refl))
+      all-same (rule2At v n) (rule2At u n) n (λ p h. pick-same _ _ (shape-same p h) (links-fit-same p h) (λ w. refl))
 
   -- ---- rules 3 and 4
   heads-same : isHead v n ≡ isHead u n

@@ -21,12 +21,13 @@ use Rattle.model.specs.View.{usedOf, shown}
 use Rattle.maps.specs.Bitmap.{bitsOf}
 use Rattle.rules.specs.Fields.{Fields, kind, class, run, next, prev, map, first, pageAt}
 use Rattle.rules.specs.Read.{openAt, headsOf, listOf, withLengths, tallyIn, tallyOf, readFields}
-use Rattle.rules.specs.Plain.{ClassPage, Rule2, Lists, Head, Open}
+use Rattle.rules.specs.Plain.{ClassPage, Shape, LinksHold, Lists, Head, Open}
 use Rattle.rules.specs.Agree.{Agree, Holds, Bounds}
 use Rattle.rules.specs.Drawn.{starts, links, onList, backLink, freeLinks, pageLinks, mapOf, classRecord, stateImage, stateFields}
 use Rattle.rules.proofs.Linked.{next-off, prev-off}
 use Rattle.rules.proofs.Pages.{page-kind, open-says, says-open}
-use Rattle.rules.proofs.Rule2.{rule2-says, free-run}
+use Rattle.rules.proofs.Shape.{shape-says, free-run}
+use Rattle.rules.proofs.Rule2.{rule2-shape, rule2-says}
 use Rattle.rules.proofs.Rules.{heads-listed, class-listed, full-alone, rule6-says}
 
 links-eq : {l : Links} {k c r x y : ℕ} → l .kind ≡ k → l .class ≡ c → l .run ≡ r → l .next .0 ≡ x → l .prev .0 ≡ y → l ≡ links k c r x y
@@ -34,7 +35,7 @@ links-eq p q r s t = λ i. record { kind = p i; class = q i; run = r i; next = r
 
 -- ---- runs by their first page and by their end
 module _ (len : ℕ → ℕ) where
-  starts-are : (ps : List ℕ) → starts (withLengths len ps) ≡ ps
+  pub starts-are : (ps : List ℕ) → starts (withLengths len ps) ≡ ps
   starts-are [] = refl
   starts-are (p ∷ ps) = ap (λ (l : List ℕ). p ∷ l) (starts-are ps)
 
@@ -70,8 +71,11 @@ module _ (len : ℕ → ℕ) where
       go (inr d) (inr (p, m, e, l)) = inr (p, inr m, e, rw (ne-eqb (x + len x) q d) l)
 
 module _ {v : Fields} {n : ℕ} (few : n ≤ noPage) (H : Holds v n) (B : Bounds v n) where
-  R : Rule2 v n
-  R = rule2-says v n (H .two)
+  R : Shape v n
+  R = shape-says v n (rule2-shape v n (H .two))
+
+  F : LinksHold v n
+  F = rule2-says v n (H .two) .links
 
   L : Lists (Head v n) (next v) (prev v) (v .image .firstRun) (headsOf v n)
   L = heads-listed v n few (H .three)
@@ -98,7 +102,7 @@ module _ {v : Fields} {n : ℕ} (few : n ≤ noPage) (H : Holds v n) (B : Bounds
   inner-drawn p h k =
       let I = R .kind0 p h k in
       let z : startsAt p runs ≡ 0 = start-off (run v) (headsOf v n) p (λ m. absurd (omega (arith, L .holds p m .1))) in
-      links-eq k (I .no-class) (I .no-run) (I .no-next) (back (ends? (run v) (headsOf v n) (p + 1))) ∙ sym (pick-yes _ _ _ (eq-eqb _ 0 z))
+      links-eq k (I .no-class) (I .no-run) (F .inside-next p h k) (back (ends? (run v) (headsOf v n) (p + 1))) ∙ sym (pick-yes _ _ _ (eq-eqb _ 0 z))
     where
       back : Ends (run v) (headsOf v n) (p + 1) → prev v p ≡ backLink runs p
       back (inl (z, no-one)) = go (free-run v n R p h (omega arith)) ∙ sym (pick-yes _ _ _ (eq-eqb _ 0 z))
@@ -107,15 +111,15 @@ module _ {v : Fields} {n : ℕ} (few : n ≤ noPage) (H : Holds v n) (B : Bounds
           go : (q : ℕ) × (q < n) × (kind v q ≡ 1) × (q ≤ p) × (p < q + run v q) → prev v p ≡ noPage
           go (q, lq, kq, le, up) =
               let d : q + run v q ≢ p + 1 = no-one q (L .all q (lq, kq)) in
-              let F = R .kind1 q lq kq .fits in
-              R .kind0 p h k .no-prev (omega (arith, F .within)) (F .each (p + 1) (omega arith) (omega arith))
+              let W = R .kind1 q lq kq .fits in
+              F .inside-prev p h k (omega (arith, W .within)) (W .each (p + 1) (omega arith) (omega arith))
       back (inr (q, m, e, l)) =
           let (lq, kq) = L .holds q m in
           let I = R .kind1 q lq kq in
           let d : q ≢ p = λ z. absurd (omega (arith, kq, k, ap (kind v) z)) in
           let s : 1 < run v q = omega (arith, I .fits .some-page) in
           let z : q + run v q - 1 ≡ p = omega arith in
-          subst (λ (x : ℕ). prev v x ≡ q) z (I .back s) ∙ (let y : q ≡ p + 1 - endsAt (p + 1) runs = omega arith in y)
+          subst (λ (x : ℕ). prev v x ≡ q) z (F .back q lq kq s) ∙ (let y : q ≡ p + 1 - endsAt (p + 1) runs = omega arith in y)
           ∙ sym (pick-no _ _ _ (ne-eqb (endsAt (p + 1) runs) 0 (omega arith)))
 
   -- ---- links of class pages
@@ -144,9 +148,11 @@ module _ {v : Fields} {n : ℕ} (few : n ≤ noPage) (H : Holds v n) (B : Bounds
       go (suc zero) k l = rw (page-kind v n p 1 h k) (head-drawn p h k)
       go (suc (suc zero)) k l = rw (page-kind v n p 2 h k) (class-drawn p h k)
       go (suc (suc (suc zero))) k l =
-          let I = R .kind3 p h k in rw (page-kind v n p 3 h k) (links-eq k (I .no-class) refl (I .no-next) (I .no-prev))
+          let (a, b) = F .taken p h (omega arith) in rw (page-kind v n p 3 h k) (links-eq k (R .kind3 p h k .no-class) refl a b)
       go (suc (suc (suc (suc zero)))) k l =
-          let I = R .kind4 p h k in rw (page-kind v n p 4 h k) (links-eq k (I .no-class) (I .no-run) (I .no-next) (I .no-prev))
+          let (a, b) = F .taken p h (omega arith) in
+          let I = R .kind4 p h k in
+          rw (page-kind v n p 4 h k) (links-eq k (I .no-class) (I .no-run) a b)
       go (suc (suc (suc (suc (suc j))))) k l = absurd (omega arith)
 
   maps-drawn : (p : ℕ) → p < n → map v p ≡ mapOf (pageAt v n p)
@@ -193,7 +199,7 @@ module _ {v : Fields} {n : ℕ} (few : n ≤ noPage) (H : Holds v n) (B : Bounds
   unfolding stateFields readFields
   drawn = record {
     image-same = image-drawn;
-    spare = R .spare;
+    spare = F .spare;
     marks = λ p h k. sym (ap (λ (x : Page). λ (i : ℕ). marksOf x i) (page-kind v n p 2 h k));
   }
 

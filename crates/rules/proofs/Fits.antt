@@ -115,7 +115,7 @@ module _ {m : State} (W : WellFormed m) (few : m .size ≤ 4096) where
       list-fits n (omega arith) 2 c 0 p (m .lists c) (omega arith) (omega (arith, slab-ok (W .table) e .in-range)) (omega arith) (lists-under c)
   links-fit p h (taken x) e =
       let L = links-are W p (taken x) e in
-      let F = shows-rule2 W .kind3 p h (ap (λ (l : Links). l .kind) L) .fits in
+      let F = shows-rule2 W .shape .kind3 p h (ap (λ (l : Links). l .kind) L) .fits in
       let l : run (stateFields m) p ≡ x = ap (λ (l : Links). l .run) L in
       record { kind = omega arith; class = omega arith; run = omega (arith, F .within); next = omega arith; prev = omega arith }
   links-fit p h inside e = record { kind = omega arith; class = omega arith; run = omega arith; next = omega arith; prev = omega arith }

@@ -2,7 +2,8 @@ pub mod Linked  -- the walk of rules 3 and 4 holds exactly where next and previo
 pub mod Pages  -- the pages that the fields show, by kind
 pub mod Agree  -- the rules and the state that is read depend only on the fields of the n pages and the nine classes, marks on class pages alone
 pub mod Rule1  -- rule 1 as a test and in plain form
-pub mod Rule2  -- rule 2 as a test and in plain form
+pub mod Shape  -- the shape of pages (rule 2) as a test and in plain form
+pub mod Rule2  -- rule 2 as a test and in plain form: the shape, and the links
 pub mod Rules  -- rules 3 to 6 as tests and in plain form
 pub mod Peaks  -- rule 6 of the peaks, as a test and in plain form
 pub mod Well  -- fields that pass rules 2 to 5 show a well-formed state

@@ -1,282 +1,88 @@
--- Rule 2 as a test and in plain form.
-use mathlib.Core.Path.{_≡_, refl, sym, ap, _∙_, subst}
-use mathlib.Core.Logic.{_⊎_, inl, inr, _≢_, _↔_}
-use mathlib.Core.Bool.{Bool, true, not, false≢true}
-use Prim.Native.Nat.{ℕ, zero, suc, _+_, _-_, _≤_, _<_}
+-- Rule 2 as a test and in plain form: the shape, and the links.
+use mathlib.Core.Path.{_≡_, refl}
+use mathlib.Core.Logic.{_↔_}
+use mathlib.Core.Bool.{Bool, true, false≢true}
+use Prim.Native.Nat.{ℕ, zero, suc, _+_, _≤_, _<_}
 use native.Mathlib.Omega.{arith}
-use borrow.Author.Tests.{eqb-true, eqb-false, eq-eqb, ne-eqb, ltb-true, leb-true, lt-ltb, le-ltb, le-leb, not-true}
-use Rattle.base.proofs.Cases.{eq?, lt?}
+use borrow.Author.Tests.{eqb-true, eq-eqb, ltb-true, lt-ltb}
 use Rattle.base.proofs.Tests.{both-true}
-use Rattle.base.proofs.AllBelow.{_&_, pick-yes, pick-no, pick-both, asked, if-asked, each-of, all-of, all-at, at-all}
-use Rattle.model.specs.Classes.{own}
-use Rattle.rules.specs.Fields.{Fields, kind, class, run, map}
-use Rattle.rules.specs.Rules.{kindAt, kindFrom, runFits, insideFree, endsFree, lastBack, freeRun, firstFree, mapFits, classWith, classPage, endsTaken, takenRun, firstTaken, insideTaken, byKind, rule2At, rule2}
-use Rattle.rules.specs.Plain.{RunFits, LiesIn, InsideFree, FirstFree, ClassPage, FirstTaken, InsideTaken, Rule2}
-
--- ---- runs told by their first pages: each page that follows a page of its run lies in the run
-module _ (v : Fields) (n head inner : ℕ)
-    (fits : (p : ℕ) → p < n → kind v p ≡ head → RunFits v n inner p)
-    (stops : (p : ℕ) → p < n → kind v p ≡ head → p + run v p < n → kind v (p + run v p) ≢ inner)
-    (after : (j : ℕ) → j < n → kind v j ≡ inner → (1 ≤ j) × ((kind v (j - 1) ≡ head) ⊎ (kind v (j - 1) ≡ inner))) where
-  lies : (j : ℕ) → j < n → kind v j ≡ inner → LiesIn v n head j
-  unfolding LiesIn
-  lies zero h e = absurd (omega (arith, after zero h e .0))
-  lies (suc i) h e =
-      let y : suc i - 1 ≡ i = omega arith in
-      go (subst (λ (q : ℕ). (kind v q ≡ head) ⊎ (kind v q ≡ inner)) y (after (suc i) h e .1)) (lies i (omega arith))
-    where
-      -- the run does not end with page i
-      grow : (q : ℕ) → q < n → kind v q ≡ head → q ≤ i → i < q + run v q → (q : ℕ) × (q < n) × (kind v q ≡ head) × (q < suc i) × (suc i < q + run v q)
-      grow q l k a b = side (eq? (suc i) (q + run v q))
-        where
-          side : (suc i ≡ q + run v q) ⊎ (suc i ≢ q + run v q) → (q : ℕ) × (q < n) × (kind v q ≡ head) × (q < suc i) × (suc i < q + run v q)
-          side (inl x) = absurd (stops q l k (omega arith) (sym (ap (kind v) x) ∙ e))
-          side (inr x) = (q, l, k, omega arith, omega arith)
-
-      go : (kind v i ≡ head) ⊎ (kind v i ≡ inner) → (kind v i ≡ inner → (q : ℕ) × (q < n) × (kind v q ≡ head) × (q < i) × (i < q + run v q)) →
-          (q : ℕ) × (q < n) × (kind v q ≡ head) × (q < suc i) × (suc i < q + run v q)
-      go (inl k) ih = let F = fits i (omega arith) k in grow i (omega arith) k (omega arith) (omega (arith, F .some-page))
-      go (inr k) ih = let (q, l, d, a, b) = ih k in grow q l d (omega arith) b
+use Rattle.base.proofs.AllBelow.{pick-both, asked, if-asked, all-at, at-all}
+use Rattle.rules.specs.Fields.{Fields, kind, run}
+use Rattle.rules.specs.Rules.{kindAt, insideLinks, lastBack, noLinks, byKind, shapeAt, shape, linksFitAt, rule2At, rule2}
+use Rattle.rules.specs.Plain.{LinksHold, Rule2}
+use Rattle.rules.proofs.Shape.{shape-says, says-shape}
 
 module _ (v : Fields) (n : ℕ) where
-  -- ---- from the tests
-  fits-says : (p inner : ℕ) → runFits v n p (run v p) inner ≡ true → RunFits v n inner p
-  unfolding runFits kindFrom
-  fits-says p inner e =
-      let (some, (within, (each, _))) = each-of _ e in
-      record {
-        some-page = ltb-true _ _ some;
-        within = leb-true _ _ within;
-        each = λ j a b.
-            let z : p + 1 + (j - p - 1) ≡ j = omega arith in
-            subst (λ (q : ℕ). kind v q ≡ inner) z
-            (eqb-true _ _ (all-at (kindFrom v (p + 1) inner) (run v p - 1) each (j - p - 1) (omega arith)));
-      }
+  -- both tests, of each page
+  parts : rule2 v n ≡ true → (p : ℕ) → p < n → (shapeAt v n p ≡ true) × (linksFitAt v n p ≡ true)
+  unfolding rule2 rule2At
+  parts e p h = both-true _ _ (all-at (rule2At v n) n e p h)
 
-  first-free : (p : ℕ) → firstFree v n p ≡ true → FirstFree v n p
-  unfolding firstFree freeRun endsFree lastBack
-  first-free p e =
-      let (class, (map, (fits, (ends, (back, _))))) = each-of _ e in
-      record {
-        no-class = eqb-true _ _ class;
-        no-map = eqb-true _ _ map;
-        fits = fits-says p 0 fits;
-        apart = λ a. ltb-true _ _ (asked _ _ ends (lt-ltb (p + run v p) n a));
-        back = λ a. eqb-true _ _ (asked _ _ back (lt-ltb 1 (run v p) a));
-      }
+  pub rule2-shape : rule2 v n ≡ true → shape v n ≡ true
+  unfolding shape
+  rule2-shape e = at-all (shapeAt v n) n (λ p h. parts e p h .0)
 
-  class-page : (p : ℕ) → classPage v p ≡ true → ClassPage v p
-  unfolding classPage classWith mapFits
-  class-page p e =
-      let (range, (run, (marks, (map, _)))) = each-of _ e in
-      record {
-        in-range = leb-true _ _ range;
-        no-run = eqb-true _ _ run;
-        own-set = all-at (v .mark p) (own (class v p)) marks;
-        map-small = λ l. eqb-true _ _ (sym (pick-yes _ _ _ (lt-ltb (class v p) 3 l)) ∙ map);
-        map-large = λ l. eqb-true _ _ (sym (pick-no _ _ _ (le-ltb (class v p) 3 l)) ∙ map);
-      }
+  -- ---- the links, from the tests
+  module _ (fit : (p : ℕ) → p < n → linksFitAt v n p ≡ true) where
+    spare : (p : ℕ) → p < n → v .spare p ≡ 0
+    unfolding linksFitAt
+    spare p h = eqb-true _ _ (both-true _ _ (fit p h) .0)
 
-  first-taken : (p : ℕ) → firstTaken v n p ≡ true → FirstTaken v n p × (p + run v p < n → kind v (p + run v p) ≢ 4)
-  unfolding firstTaken takenRun endsTaken
-  first-taken p e =
-      let x = each-of _ e in (
-        record {
-          no-class = eqb-true _ _ (x .0);
-          no-map = eqb-true _ _ (x .1 .0);
-          no-next = eqb-true _ _ (x .1 .1 .0);
-          no-prev = eqb-true _ _ (x .1 .1 .1 .0);
-          fits = fits-says p 4 (x .1 .1 .1 .1 .0);
-        },
-        λ a. eqb-false _ _ (not-true _ (asked _ _ (x .1 .1 .1 .1 .1 .0) (lt-ltb (p + run v p) n a))),
-      )
+    at : (p : ℕ) → p < n → byKind (kind v p) (insideLinks v n p) (lastBack v p (run v p)) true (noLinks v p) (noLinks v p) ≡ true
+    unfolding linksFitAt
+    at p h = both-true _ _ (fit p h) .1
 
-  two : (k : ℕ) → k ≤ 1 → (k ≡ 1) ⊎ (k ≡ 0)
-  two zero h = inr refl
-  two (suc zero) h = inl refl
-  two (suc (suc k)) h = absurd (omega arith)
+    inside : (p : ℕ) → p < n → kind v p ≡ 0 → insideLinks v n p ≡ true
+    inside p h k = rw k at (at p h)
 
-  three : (k : ℕ) → 2 < k → k ≤ 4 → (k ≡ 3) ⊎ (k ≡ 4)
-  three (suc (suc (suc zero))) h l = inl refl
-  three (suc (suc (suc (suc zero)))) h l = inr refl
-  three (suc (suc (suc (suc (suc k))))) h l = absurd (omega arith)
-  three zero h l = absurd (omega arith)
-  three (suc zero) h l = absurd (omega arith)
-  three (suc (suc zero)) h l = absurd (omega arith)
-
-  module _ (e : rule2 v n ≡ true) where
-    at : (p : ℕ) → p < n → (v .spare p ≡ 0)
-        × (byKind (kind v p) (insideFree v n p) (firstFree v n p) (classPage v p) (firstTaken v n p) (insideTaken v p) ≡ true)
-    unfolding rule2 rule2At
-    at p h = let x = both-true _ _ (all-at (rule2At v n) n e p h) in (eqb-true _ _ (x .0), x .1)
-
-    some-kind : (k : ℕ) (a b c d f : Bool) → byKind k a b c d f ≡ true → k ≤ 4
-    some-kind zero a b c d f h = omega arith
-    some-kind (suc zero) a b c d f h = omega arith
-    some-kind (suc (suc zero)) a b c d f h = omega arith
-    some-kind (suc (suc (suc zero))) a b c d f h = omega arith
-    some-kind (suc (suc (suc (suc zero)))) a b c d f h = omega arith
-    some-kind (suc (suc (suc (suc (suc k))))) a b c d f h = absurd (false≢true h)
-
-    kinds : (p : ℕ) → p < n → kind v p ≤ 4
-    kinds p h = some-kind (kind v p) _ _ _ _ _ (at p h .1)
-
-    inside-free : (p : ℕ) → p < n → kind v p ≡ 0 → insideFree v n p ≡ true
-    inside-free p h k = rw k at (at p h .1)
-
-    inside-taken : (p : ℕ) → p < n → kind v p ≡ 4 → insideTaken v p ≡ true
-    inside-taken p h k = rw k at (at p h .1)
-
-    kind1 : (p : ℕ) → p < n → kind v p ≡ 1 → FirstFree v n p
-    kind1 p h k = first-free p (rw k at (at p h .1))
-
-    kind3 : (p : ℕ) → p < n → kind v p ≡ 3 → FirstTaken v n p × (p + run v p < n → kind v (p + run v p) ≢ 4)
-    kind3 p h k = first-taken p (rw k at (at p h .1))
-
-    kind0 : (p : ℕ) → p < n → kind v p ≡ 0 → InsideFree v n p
-    unfolding insideFree kindAt
-    kind0 p h k =
-        let (class, (run, (map, (next, (_, (_, (prev, _))))))) = each-of _ (inside-free p h k) in
-        record {
-          no-class = eqb-true _ _ class;
-          no-run = eqb-true _ _ run;
-          no-map = eqb-true _ _ map;
-          no-next = eqb-true _ _ next;
-          lies = lies v n 1 0 (λ q l d. kind1 q l d .fits) (λ q l d a z. omega (arith, kind1 q l d .apart a)) after p h k;
-          no-prev = λ a b. eqb-true _ _ (asked _ _ prev (pick-both _ _ (lt-ltb (p + 1) n a) (eq-eqb (kind v (p + 1)) 0 b)));
-        }
-      where
-        after : (j : ℕ) → j < n → kind v j ≡ 0 → (1 ≤ j) × ((kind v (j - 1) ≡ 1) ⊎ (kind v (j - 1) ≡ 0))
-        after j l d =
-            let (_, (_, (_, (_, (some, (free, _)))))) = each-of _ (inside-free j l d) in
-            (ltb-true _ _ some, two (kind v (j - 1)) (leb-true _ _ free))
-
-    kind4 : (p : ℕ) → p < n → kind v p ≡ 4 → InsideTaken v n p
-    unfolding insideTaken
-    kind4 p h k =
-        let (class, (run, (map, (next, (prev, _))))) = each-of _ (inside-taken p h k) in
-        record {
-          no-class = eqb-true _ _ class;
-          no-run = eqb-true _ _ run;
-          no-map = eqb-true _ _ map;
-          no-next = eqb-true _ _ next;
-          no-prev = eqb-true _ _ prev;
-          lies = lies v n 3 4 (λ q l d. kind3 q l d .0 .fits) (λ q l d. kind3 q l d .1) after p h k;
-        }
-      where
-        after : (j : ℕ) → j < n → kind v j ≡ 4 → (1 ≤ j) × ((kind v (j - 1) ≡ 3) ⊎ (kind v (j - 1) ≡ 4))
-        after j l d =
-            let (_, (_, (_, (_, (_, (some, (busy, _))))))) = each-of _ (inside-taken j l d) in
-            let low : 0 < j = ltb-true _ _ some in
-            (low, three (kind v (j - 1)) (ltb-true _ _ busy) (kinds (j - 1) (omega arith)))
-
-    pub rule2-says : Rule2 v n
-    rule2-says = record {
-      spare = λ p h. at p h .0;
-      kinds = kinds;
-      kind0 = kind0;
-      kind1 = kind1;
-      kind2 = λ p h k. class-page p (rw k at (at p h .1));
-      kind3 = λ p h k. kind3 p h k .0;
-      kind4 = kind4;
+    links-say : LinksHold v n
+    unfolding insideLinks lastBack noLinks kindAt
+    links-say = record {
+      spare = spare;
+      inside-next = λ p h k. eqb-true _ _ (both-true _ _ (inside p h k) .0);
+      inside-prev = λ p h k a b.
+          eqb-true _ _ (asked _ _ (both-true _ _ (inside p h k) .1) (pick-both _ _ (lt-ltb (p + 1) n a) (eq-eqb (kind v (p + 1)) 0 b)));
+      back = λ p h k a. eqb-true _ _ (asked _ _ (first p h k) (lt-ltb 1 (run v p) a));
+      taken = λ p h k. let x = both-true _ _ (none p (kind v p) k (at p h)) in (eqb-true _ _ (x .0), eqb-true _ _ (x .1));
     }
+      where
+        first : (p : ℕ) → p < n → kind v p ≡ 1 → lastBack v p (run v p) ≡ true
+        first p h k = rw k at (at p h)
+
+        none : (p k : ℕ) → 2 < k → byKind k (insideLinks v n p) (lastBack v p (run v p)) true (noLinks v p) (noLinks v p) ≡ true → noLinks v p ≡ true
+        none p zero l e = absurd (omega arith)
+        none p (suc zero) l e = absurd (omega arith)
+        none p (suc (suc zero)) l e = absurd (omega arith)
+        none p (suc (suc (suc zero))) l e = e
+        none p (suc (suc (suc (suc zero)))) l e = e
+        none p (suc (suc (suc (suc (suc k))))) l e = absurd (false≢true e)
 
   -- ---- to the tests
-  fits-holds : (p inner : ℕ) → RunFits v n inner p → runFits v n p (run v p) inner ≡ true
-  unfolding runFits kindFrom
-  fits-holds p inner F =
-      all-of _
-      (lt-ltb 0 (run v p) (F .some-page) & le-leb (p + run v p) n (F .within)
-      & at-all (kindFrom v (p + 1) inner) (run v p - 1) (λ i h. eq-eqb (kind v (p + 1 + i)) inner (F .each (p + 1 + i) (omega arith) (omega arith))) & tt)
+  module _ (L : LinksHold v n) where
+    holds-at : (p : ℕ) → p < n → (k : ℕ) → kind v p ≡ k → k ≤ 4 →
+        byKind k (insideLinks v n p) (lastBack v p (run v p)) true (noLinks v p) (noLinks v p) ≡ true
+    unfolding insideLinks lastBack noLinks kindAt
+    holds-at p h zero k l =
+        pick-both _ _ (eq-eqb _ _ (L .inside-next p h k))
+        (if-asked _ _ (λ t. let (a, b) = both-true _ _ t in eq-eqb _ _ (L .inside-prev p h k (ltb-true _ _ a) (eqb-true _ _ b))))
+    holds-at p h (suc zero) k l = if-asked _ _ (λ t. eq-eqb _ _ (L .back p h k (ltb-true _ _ t)))
+    holds-at p h (suc (suc zero)) k l = refl
+    holds-at p h (suc (suc (suc zero))) k l = let (a, b) = L .taken p h (omega arith) in pick-both _ _ (eq-eqb _ _ a) (eq-eqb _ _ b)
+    holds-at p h (suc (suc (suc (suc zero)))) k l = let (a, b) = L .taken p h (omega arith) in pick-both _ _ (eq-eqb _ _ a) (eq-eqb _ _ b)
+    holds-at p h (suc (suc (suc (suc (suc j))))) k l = absurd (omega arith)
 
-  module _ (R : Rule2 v n) where
-    -- the run of a page whose first page is q
-    between : (q p inner : ℕ) → RunFits v n inner q → q < p → p < q + run v q → (q ≡ p - 1) ⊎ (kind v (p - 1) ≡ inner)
-    between q p inner F a b = go (eq? q (p - 1))
-      where
-        go : (q ≡ p - 1) ⊎ (q ≢ p - 1) → (q ≡ p - 1) ⊎ (kind v (p - 1) ≡ inner)
-        go (inl x) = inl x
-        go (inr x) = inr (F .each (p - 1) (omega arith) (omega arith))
+    say-links : (p : ℕ) → p < n → kind v p ≤ 4 → linksFitAt v n p ≡ true
+    unfolding linksFitAt
+    say-links p h l = pick-both _ _ (eq-eqb (v .spare p) 0 (L .spare p h)) (holds-at p h (kind v p) refl l)
 
-    free-before : (p : ℕ) → LiesIn v n 1 p → (0 < p) × (kind v (p - 1) ≤ 1)
-    unfolding LiesIn
-    free-before p (q, l, k, a, b) = (omega arith, go (between q p 0 (R .kind1 q l k .fits) a b))
-      where
-        go : (q ≡ p - 1) ⊎ (kind v (p - 1) ≡ 0) → kind v (p - 1) ≤ 1
-        go (inl x) = omega (arith, ap (kind v) x)
-        go (inr x) = omega arith
+  pub rule2-says : rule2 v n ≡ true → Rule2 v n
+  rule2-says e = record { shape = shape-says v n (rule2-shape e); links = links-say (λ p h. parts e p h .1) }
 
-    taken-before : (p : ℕ) → LiesIn v n 3 p → (0 < p) × (2 < kind v (p - 1))
-    unfolding LiesIn
-    taken-before p (q, l, k, a, b) = (omega arith, go (between q p 4 (R .kind3 q l k .fits) a b))
-      where
-        go : (q ≡ p - 1) ⊎ (kind v (p - 1) ≡ 4) → 2 < kind v (p - 1)
-        go (inl x) = omega (arith, ap (kind v) x)
-        go (inr x) = omega arith
-
-    -- two taken runs do not overlap, so that the page after one is not inside another
-    taken-ends : (p : ℕ) → p < n → kind v p ≡ 3 → p + run v p < n → kind v (p + run v p) ≢ 4
-    unfolding LiesIn
-    taken-ends p h k l z = go (R .kind4 (p + run v p) l z .lies)
-      where
-        go : (q : ℕ) × (q < n) × (kind v q ≡ 3) × (q < p + run v p) × (p + run v p < q + run v q) → ⊥
-        go (q, m, d, a, b) = side (lt? p q) (lt? q p)
-          where
-            side : (p < q) ⊎ (q ≤ p) → (q < p) ⊎ (p ≤ q) → ⊥
-            side (inl x) y = omega (arith, R .kind3 p h k .fits .each q x a)
-            side (inr x) (inl y) = omega (arith, R .kind3 q m d .fits .each p y (omega arith))
-            side (inr x) (inr y) = let e : q ≡ p = omega arith in omega (arith, ap (run v) e)
-
-    holds-at : (p : ℕ) → p < n → (k : ℕ) → kind v p ≡ k →
-        byKind k (insideFree v n p) (firstFree v n p) (classPage v p) (firstTaken v n p) (insideTaken v p) ≡ true
-    unfolding insideFree kindAt firstFree freeRun endsFree lastBack classPage classWith mapFits firstTaken takenRun endsTaken insideTaken
-    holds-at p h zero k =
-        let I = R .kind0 p h k in
-        let (a, b) = free-before p (I .lies) in
-        all-of _
-        (eq-eqb _ _ (I .no-class) & eq-eqb _ _ (I .no-run) & eq-eqb _ _ (I .no-map) & eq-eqb _ _ (I .no-next)
-        & lt-ltb 0 p a & le-leb (kind v (p - 1)) 1 b
-        & if-asked _ _ (λ t. let (w, z) = both-true _ _ t in eq-eqb _ _ (I .no-prev (ltb-true _ _ w) (eqb-true _ _ z))) & tt)
-    holds-at p h (suc zero) k =
-        let I = R .kind1 p h k in
-        all-of _
-        (eq-eqb _ _ (I .no-class) & eq-eqb _ _ (I .no-map) & fits-holds p 0 (I .fits)
-        & if-asked _ _ (λ t. lt-ltb 1 (kind v (p + run v p)) (I .apart (ltb-true _ _ t)))
-        & if-asked _ _ (λ t. eq-eqb _ _ (I .back (ltb-true _ _ t))) & tt)
-    holds-at p h (suc (suc zero)) k =
-        let I = R .kind2 p h k in
-        all-of _
-        (le-leb (class v p) 8 (I .in-range) & eq-eqb _ _ (I .no-run) & at-all (v .mark p) (own (class v p)) (I .own-set)
-        & maps I (lt? (class v p) 3) & tt)
-      where
-        maps : ClassPage v p → (class v p < 3) ⊎ (3 ≤ class v p) → mapFits (map v p) (class v p) ≡ true
-        maps I (inl l) = pick-yes _ _ _ (lt-ltb (class v p) 3 l) ∙ eq-eqb _ _ (I .map-small l)
-        maps I (inr l) = pick-no _ _ _ (le-ltb (class v p) 3 l) ∙ eq-eqb _ _ (I .map-large l)
-    holds-at p h (suc (suc (suc zero))) k =
-        let I = R .kind3 p h k in
-        all-of _
-        (eq-eqb _ _ (I .no-class) & eq-eqb _ _ (I .no-map) & eq-eqb _ _ (I .no-next) & eq-eqb _ _ (I .no-prev) & fits-holds p 4 (I .fits)
-        & if-asked _ _ (λ t. ap not (ne-eqb _ _ (taken-ends p h k (ltb-true _ _ t)))) & tt)
-    holds-at p h (suc (suc (suc (suc zero)))) k =
-        let I = R .kind4 p h k in
-        let (a, b) = taken-before p (I .lies) in
-        all-of _
-        (eq-eqb _ _ (I .no-class) & eq-eqb _ _ (I .no-run) & eq-eqb _ _ (I .no-map) & eq-eqb _ _ (I .no-next) & eq-eqb _ _ (I .no-prev)
-        & lt-ltb 0 p a & lt-ltb 2 (kind v (p - 1)) b & tt)
-    holds-at p h (suc (suc (suc (suc (suc k))))) e = absurd (omega (arith, R .kinds p h))
-
-    pub says-rule2 : rule2 v n ≡ true
-    unfolding rule2 rule2At
-    says-rule2 = at-all (rule2At v n) n (λ p h. pick-both _ _ (eq-eqb (v .spare p) 0 (R .spare p h)) (holds-at p h (kind v p) refl))
+  pub says-rule2 : Rule2 v n → rule2 v n ≡ true
+  unfolding rule2 rule2At shape
+  says-rule2 R =
+      at-all (rule2At v n) n (λ p h.
+      pick-both _ _ (all-at (shapeAt v n) n (says-shape v n (R .shape)) p h) (say-links (R .links) p h (R .shape .kinds p h)))
 
   pub rule2-iff : (rule2 v n ≡ true) ↔ Rule2 v n
   rule2-iff = (rule2-says, says-rule2)
-
-  -- a free page lies in a free run
-  pub free-run : Rule2 v n → (p : ℕ) → p < n → kind v p ≤ 1 → (q : ℕ) × (q < n) × (kind v q ≡ 1) × (q ≤ p) × (p < q + run v q)
-  unfolding LiesIn
-  free-run R p h k = go (two (kind v p) k)
-    where
-      go : (kind v p ≡ 1) ⊎ (kind v p ≡ 0) → (q : ℕ) × (q < n) × (kind v q ≡ 1) × (q ≤ p) × (p < q + run v q)
-      go (inl e) = (p, h, e, omega arith, omega (arith, R .kind1 p h e .fits .some-page))
-      go (inr e) = let (q, l, d, a, b) = R .kind0 p h e .lies in (q, l, d, omega arith, b)

@@ -23,7 +23,7 @@ use Rattle.maps.proofs.Bits.{bits-join}
 use Rattle.rules.specs.Fields.{Fields, kind, class, run, next, prev, map, pageAt}
 use Rattle.rules.specs.Drawn.{starts, links, onList, backLink, freeLinks, pageLinks, mapOf, stateImage, stateFields}
 use Rattle.model.proofs.Classes.{own-none}
-use Rattle.rules.specs.Plain.{LiesIn, InsideFree, FirstFree, ClassPage, FirstTaken, InsideTaken, Rule2}
+use Rattle.rules.specs.Plain.{LiesIn, Inside, First, ClassPage, Shape, LinksHold, Rule2}
 use Rattle.rules.proofs.Pages.{page-past, page-idle, page-kind}
 use Rattle.rules.proofs.Runs.{started, ended, start-some, inner-start}
 
@@ -146,8 +146,8 @@ module _ {m : State} (W : WellFormed m) where
   inner-prev : (p : ℕ) → m .page p ≡ idle → startsAt p (m .runs) ≡ 0 → prev v p ≡ backLink (m .runs) p
   inner-prev p e z = ap (λ (l : Links). l .prev .0) (inner-links p e z)
 
-  shows-inside-free : (p : ℕ) → p < n → kind v p ≡ 0 → InsideFree v n p
-  unfolding LiesIn backLink
+  shows-inside-free : (p : ℕ) → p < n → kind v p ≡ 0 → Inside v n 1 p
+  unfolding LiesIn
   shows-inside-free p h k =
       let (e, z) = inner-is p h k in
       let L = inner-links p e z in
@@ -159,41 +159,48 @@ module _ {m : State} (W : WellFormed m) where
         no-class = ap (λ (l : Links). l .class) L;
         no-run = ap (λ (l : Links). l .run) L;
         no-map = map-are p idle e;
-        no-next = ap (λ (l : Links). l .next .0) L;
         lies = (r .start, omega arith, kind-is R, omega arith, omega arith);
-        no-prev = λ w y. inner-prev p e z ∙ last e w y (eq? (endsAt (p + 1) (m .runs)) 0);
       }
+
+  shows-inside-next : (p : ℕ) → p < n → kind v p ≡ 0 → next v p ≡ noPage
+  shows-inside-next p h k = let (e, z) = inner-is p h k in ap (λ (l : Links). l .next .0) (inner-links p e z)
+
+  shows-inside-prev : (p : ℕ) → p < n → kind v p ≡ 0 → p + 1 < n → kind v (p + 1) ≡ 0 → prev v p ≡ noPage
+  unfolding backLink
+  shows-inside-prev p h k w y = let (e, z) = inner-is p h k in inner-prev p e z ∙ last (eq? (endsAt (p + 1) (m .runs)) 0)
     where
-      last : m .page p ≡ idle → p + 1 < n → kind v (p + 1) ≡ 0 → (endsAt (p + 1) (m .runs) ≡ 0) ⊎ (endsAt (p + 1) (m .runs) ≢ 0) → backLink (m .runs) p ≡ noPage
-      last e w y (inl x) = pick-yes _ _ _ (eq-eqb _ 0 x)
-      last e w y (inr x) =
+      last : (endsAt (p + 1) (m .runs) ≡ 0) ⊎ (endsAt (p + 1) (m .runs) ≢ 0) → backLink (m .runs) p ≡ noPage
+      last (inl x) = pick-yes _ _ _ (eq-eqb _ 0 x)
+      last (inr x) =
           let (r, rm, q, l) = ended G (p + 1) x in
           absurd (clash (ap isIdle (inner-is (p + 1) w y .0)) (G .sound r rm .high-end (p + 1) (sym q)))
 
-  shows-first-free : (p : ℕ) → p < n → kind v p ≡ 1 → FirstFree v n p
-  unfolding backLink
-  shows-first-free p h k =
+  -- the run that page p begins
+  begun : (p : ℕ) → p < n → kind v p ≡ 1 → (r : Run) × Mem r (m .runs) × (r .start ≡ p) × (run v p ≡ r .len)
+  begun p h k =
       let (e, z) = head-is p h k in
       let (r, rm, q, w) = started G p z in
-      let L = head-links p e z in
+      (r, rm, q, ap (λ (l : Links). l .run) (head-links p e z) ∙ sym w)
+
+  shows-first-free : (p : ℕ) → p < n → kind v p ≡ 1 → First v n 0 p
+  shows-first-free p h k =
+      let (e, z) = head-is p h k in
+      let (r, rm, q, u) = begun p h k in
       let S = G .sound r rm in
-      let u : run v p ≡ r .len = ap (λ (l : Links). l .run) L ∙ sym w in
       record {
-        no-class = ap (λ (l : Links). l .class) L;
+        no-class = ap (λ (l : Links). l .class) (head-links p e z);
         no-map = map-are p idle e;
         fits = record {
           some-page = omega (arith, S .some-page);
           within = omega (arith, run-within r rm);
           each = λ j a b. kind-is (inner-links j (run-idle r rm j (omega arith) (omega arith)) (inner-start G r rm j (omega arith) (omega arith)));
         };
-        apart = λ l. apart (p + run v p) l (S .high-end (p + run v p) (omega arith));
-        back = λ l.
-            let j : ℕ = p + run v p - 1 in
-            let y : j + 1 ≡ r .start + r .len = omega arith in
-            let x : endsAt (j + 1) (m .runs) ≡ r .len = ap (λ (t : ℕ). endsAt t (m .runs)) y ∙ ends-at G r rm in
-            inner-prev j (run-idle r rm j (omega arith) (omega arith)) (inner-start G r rm j (omega arith) (omega arith))
-            ∙ pick-no _ _ _ (ne-eqb (endsAt (j + 1) (m .runs)) 0 (omega arith)) ∙ omega arith;
       }
+
+  shows-apart : (p : ℕ) → p < n → kind v p ≡ 1 → p + run v p < n → 1 < kind v (p + run v p)
+  shows-apart p h k l =
+      let (r, rm, q, u) = begun p h k in
+      apart (p + run v p) l (G .sound r rm .high-end (p + run v p) (omega arith))
     where
       apart : (j : ℕ) → j < n → isIdle (m .page j) ≡ false → 1 < kind v j
       apart j l f = go (lt? 1 (kind v j))
@@ -201,6 +208,16 @@ module _ {m : State} (W : WellFormed m) where
           go : (1 < kind v j) ⊎ (kind v j ≤ 1) → 1 < kind v j
           go (inl x) = x
           go (inr x) = absurd (clash (ap isIdle (idle-is j l x)) f)
+
+  shows-back : (p : ℕ) → p < n → kind v p ≡ 1 → 1 < run v p → prev v (p + run v p - 1) ≡ p
+  unfolding backLink
+  shows-back p h k l =
+      let (r, rm, q, u) = begun p h k in
+      let j : ℕ = p + run v p - 1 in
+      let y : j + 1 ≡ r .start + r .len = omega arith in
+      let x : endsAt (j + 1) (m .runs) ≡ r .len = ap (λ (t : ℕ). endsAt t (m .runs)) y ∙ ends-at G r rm in
+      inner-prev j (run-idle r rm j (omega arith) (omega arith)) (inner-start G r rm j (omega arith) (omega arith))
+      ∙ pick-no _ _ _ (ne-eqb (endsAt (j + 1) (m .runs)) 0 (omega arith)) ∙ omega arith
 
   shows-class-page : (p : ℕ) → p < n → kind v p ≡ 2 → ClassPage v p
   shows-class-page p h k =
@@ -217,15 +234,13 @@ module _ {m : State} (W : WellFormed m) where
             ∙ bits-low (v .mark p) 64 (chunks (class v p)) (bitmap-in-record (class v p) (ok .in-range) (own-none (class v p) l)) (ok .past-clear);
       }
 
-  shows-first-taken : (p : ℕ) → p < n → kind v p ≡ 3 → FirstTaken v n p
+  shows-first-taken : (p : ℕ) → p < n → kind v p ≡ 3 → First v n 4 p
   shows-first-taken p h k =
       let e = taken-is p h k in
       let L = links-are p (taken (run v p)) e in
       record {
         no-class = ap (λ (l : Links). l .class) L;
         no-map = map-are p (taken (run v p)) e;
-        no-next = ap (λ (l : Links). l .next .0) L;
-        no-prev = ap (λ (l : Links). l .prev .0) L;
         fits = record {
           some-page = taken-ok (W .table) e;
           within = taken-within p (run v p) e;
@@ -242,7 +257,7 @@ module _ {m : State} (W : WellFormed m) where
               omega (arith, in-table (W .table) (p + x - 1) (λ z. never (cc)))
           go (inr l) = omega (arith, in-table (W .table) p (λ z. never (cc)))
 
-  shows-inside-taken : (p : ℕ) → p < n → kind v p ≡ 4 → InsideTaken v n p
+  shows-inside-taken : (p : ℕ) → p < n → kind v p ≡ 4 → Inside v n 3 p
   unfolding LiesIn
   shows-inside-taken p h k =
       let e = inside-is p h k in
@@ -254,17 +269,28 @@ module _ {m : State} (W : WellFormed m) where
         no-class = ap (λ (l : Links). l .class) L;
         no-run = ap (λ (l : Links). l .run) L;
         no-map = map-are p inside e;
-        no-next = ap (λ (l : Links). l .next .0) L;
-        no-prev = ap (λ (l : Links). l .prev .0) L;
         lies = (q, omega arith, kind-is Q, a, omega arith);
       }
 
-  pub shows-rule2 : Rule2 v n
-  shows-rule2 = record {
-    spare = λ p h. unfold stateFields in refl;
+  shows-taken : (p : ℕ) → p < n → 2 < kind v p → (next v p ≡ noPage) × (prev v p ≡ noPage)
+  shows-taken p h k = go (m .page p) refl
+    where
+      none : {x : ℕ} {a b : ℕ} → v .image .links p ≡ links x a b noPage noPage → (next v p ≡ noPage) × (prev v p ≡ noPage)
+      none e = (ap (λ (l : Links). l .next .0) e, ap (λ (l : Links). l .prev .0) e)
+
+      go : (x : Page) → m .page p ≡ x → (next v p ≡ noPage) × (prev v p ≡ noPage)
+      go idle e = absurd (omega (arith, idle-low p e))
+      go (slab c j) e = absurd (omega (arith, kind-is (links-are p (slab c j) e)))
+      go (taken x) e = none (links-are p (taken x) e)
+      go inside e = none (links-are p inside e)
+      go edge e = absurd (omega (arith, W .table .ends p e))
+
+  shows-shape : Shape v n
+  shows-shape = record {
     kinds = λ p h. kinds p h (m .page p) refl;
     kind0 = shows-inside-free;
     kind1 = shows-first-free;
+    apart = shows-apart;
     kind2 = shows-class-page;
     kind3 = shows-first-taken;
     kind4 = shows-inside-taken;
@@ -276,3 +302,15 @@ module _ {m : State} (W : WellFormed m) where
       kinds p h (taken x) e = omega (arith, kind-is (links-are p (taken x) e))
       kinds p h inside e = omega (arith, kind-is (links-are p inside e))
       kinds p h edge e = absurd (omega (arith, W .table .ends p e))
+
+  pub shows-rule2 : Rule2 v n
+  shows-rule2 = record {
+    shape = shows-shape;
+    links = record {
+      spare = λ p h. unfold stateFields in refl;
+      inside-next = shows-inside-next;
+      inside-prev = shows-inside-prev;
+      back = shows-back;
+      taken = shows-taken;
+    };
+  }

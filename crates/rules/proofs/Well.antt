@@ -15,30 +15,31 @@ use Rattle.model.specs.WellFormed.{PageOk, TableOk, Stretch, RunsOk, ListsOk, T
 use Rattle.rules.specs.Fields.{Fields, kind, class, run, pageOf, pageAt}
 use Rattle.rules.specs.Read.{openAt, headsOf, listOf, withLengths, tallyOf, readFields}
 use Rattle.rules.specs.Rules.{rule3, rule4, rule5}
-use Rattle.rules.specs.Plain.{LiesIn, Rule2, Head, Open}
+use Rattle.rules.specs.Plain.{LiesIn, Shape, Head, Open}
 use Rattle.rules.specs.Agree.{Holds, Bounds}
 use Rattle.rules.proofs.Pages.{inside-kind, taken-kind, edge-kind, page-in, page-past, page-kind, page-idle, there, idle-there, open-says, says-open}
-use Rattle.rules.proofs.Rule2.{rule2-says, free-run}
+use Rattle.rules.proofs.Shape.{shape-says, free-run}
+use Rattle.rules.proofs.Rule2.{rule2-shape}
 use Rattle.rules.proofs.Rules.{heads-listed, class-listed, rule5-says}
 
 -- ---- runs as pages with their lengths
 module _ (len : ℕ → ℕ) where
-  abbrev runAt : ℕ → Run
+  abbrev pub runAt : ℕ → Run
   runAt p = record { start = p; len = len p }
 
-  run-on : (ps : List ℕ) (r : Run) → Mem r (withLengths len ps) → Mem (r .start) ps × (r ≡ runAt (r .start))
+  pub run-on : (ps : List ℕ) (r : Run) → Mem r (withLengths len ps) → Mem (r .start) ps × (r ≡ runAt (r .start))
   run-on (p ∷ ps) r (inl e) = (inl (ap (λ (x : Run). x .start) e), rw e)
   run-on (p ∷ ps) r (inr m) = let x = run-on ps r m in (inr (x .0), x .1)
 
-  on-run : (ps : List ℕ) (p : ℕ) → Mem p ps → Mem (runAt p) (withLengths len ps)
+  pub on-run : (ps : List ℕ) (p : ℕ) → Mem p ps → Mem (runAt p) (withLengths len ps)
   on-run (q ∷ ps) p (inl e) = inl (ap runAt e)
   on-run (q ∷ ps) p (inr m) = inr (on-run ps p m)
 
-  runs-once : (ps : List ℕ) → NoDup ps → NoDup (withLengths len ps)
+  pub runs-once : (ps : List ℕ) → NoDup ps → NoDup (withLengths len ps)
   runs-once [] d = tt
   runs-once (p ∷ ps) d = (λ m. d .0 (run-on ps (runAt p) m .0), runs-once ps (d .1))
 
-module _ (v : Fields) (n : ℕ) (few : n ≤ noPage) (B : Bounds v n) (R : Rule2 v n) where
+module _ (v : Fields) (n : ℕ) (B : Bounds v n) (R : Shape v n) where
   -- ---- the table of pages
   page-ok : rule5 v n ≡ true → (p : ℕ) → PageOk (pageAt v n p)
   page-ok five p = go (lt? p n)
@@ -60,7 +61,7 @@ module _ (v : Fields) (n : ℕ) (few : n ≤ noPage) (B : Bounds v n) (R : Rule2
       go (inl h) = rw (page-in v n p h) (ok (kind v p) h refl)
       go (inr h) = rw (page-past v n p h) tt
 
-  table-ok : rule5 v n ≡ true → TableOk n (pageAt v n)
+  pub table-ok : rule5 v n ≡ true → TableOk n (pageAt v n)
   unfolding LiesIn
   table-ok five = record { each = page-ok five; past = page-past v n; ends = ends; inner = inner; owner = owner }
     where
@@ -86,7 +87,7 @@ module _ (v : Fields) (n : ℕ) (few : n ≤ noPage) (B : Bounds v n) (R : Rule2
           (q, run v q, page-kind v n q 3 l d, a, b)
 
   -- ---- the free runs
-  stretch : (p : ℕ) → p < n → kind v p ≡ 1 → Stretch (λ j. isIdle (pageAt v n j)) (runAt (run v) p)
+  pub stretch : (p : ℕ) → p < n → kind v p ≡ 1 → Stretch (λ j. isIdle (pageAt v n j)) (runAt (run v) p)
   stretch p h k =
       let F = R .kind1 p h k .fits in
       record {
@@ -101,7 +102,7 @@ module _ (v : Fields) (n : ℕ) (few : n ≤ noPage) (B : Bounds v n) (R : Rule2
       free j a b (inr l) = let z : j ≡ p = omega arith in omega (arith, ap (kind v) z)
 
       high : (j : ℕ) → j ≡ p + run v p → (j < n) × (kind v j ≤ 1) → ⊥
-      high j a x = omega (arith, R .kind1 p h k .apart (omega (arith, x .0)), ap (kind v) a, x .1)
+      high j a x = omega (arith, R .apart p h k (omega (arith, x .0)), ap (kind v) a, x .1)
 
       -- the run of a free page right before p would reach p
       low : (j : ℕ) → suc j ≡ p → (j < n) × (kind v j ≤ 1) → ⊥
@@ -114,11 +115,11 @@ module _ (v : Fields) (n : ℕ) (few : n ≤ noPage) (B : Bounds v n) (R : Rule2
               reach (inl m) = omega (arith, R .kind1 q l d .fits .each p (omega arith) m)
               reach (inr m) =
                   let z : q + run v q ≡ p = omega arith in
-                  omega (arith, R .kind1 q l d .apart (omega arith), ap (kind v) z)
+                  omega (arith, R .apart q l d (omega arith), ap (kind v) z)
 
-  runs-ok : rule3 v n ≡ true → RunsOk (λ j. isIdle (pageAt v n j)) (withLengths (run v) (headsOf v n))
+  runs-ok : n ≤ noPage → rule3 v n ≡ true → RunsOk (λ j. isIdle (pageAt v n j)) (withLengths (run v) (headsOf v n))
   unfolding Head
-  runs-ok e =
+  runs-ok few e =
       let L = heads-listed v n few e in
       record {
         once = runs-once (run v) (headsOf v n) (L .once);
@@ -133,9 +134,9 @@ module _ (v : Fields) (n : ℕ) (few : n ≤ noPage) (B : Bounds v n) (R : Rule2
       }
 
   -- ---- the class lists
-  lists-ok : rule4 v n ≡ true → ListsOk (pageAt v n) (listOf v n)
+  lists-ok : n ≤ noPage → rule4 v n ≡ true → ListsOk (pageAt v n) (listOf v n)
   unfolding openAt listOf Open
-  lists-ok e = record { once = λ c. once c (lt? c 9); holds = λ c p m. holds c p m (lt? c 9); all = all }
+  lists-ok few e = record { once = λ c. once c (lt? c 9); holds = λ c p m. holds c p m (lt? c 9); all = all }
     where
       none-past : (c : ℕ) → 9 ≤ c → listOf v n c ≡ []
       none-past c h = pick-no _ _ _ (le-ltb c 9 h)
@@ -154,7 +155,7 @@ module _ (v : Fields) (n : ℕ) (few : n ≤ noPage) (B : Bounds v n) (R : Rule2
           class-listed v n few e c (omega (arith, R .kind2 p (x .0) (x .1) .in-range, x .2)) .all p x
 
   -- ---- the tallies
-  tally-ok : (c : ℕ) → TallyOk c (tallyOf v c)
+  pub tally-ok : (c : ℕ) → TallyOk c (tallyOf v c)
   unfolding tallyOf most
   tally-ok c = go (lt? c 9)
     where
@@ -166,11 +167,11 @@ module _ (v : Fields) (n : ℕ) (few : n ≤ noPage) (B : Bounds v n) (R : Rule2
 pub fields-well : {v : Fields} {n : ℕ} → 1 ≤ n → n ≤ noPage → Holds v n → Bounds v n → WellFormed (readFields v n)
 unfolding readFields
 fields-well {v} {n} some few H B =
-    let R = rule2-says v n (H .two) in
+    let R = shape-says v n (rule2-shape v n (H .two)) in
     record {
       some-page = some;
-      table = table-ok v n few B R (H .five);
-      free-runs = runs-ok v n few B R (H .three);
-      class-lists = lists-ok v n few B R (H .four);
-      tallies = tally-ok v n few B R;
+      table = table-ok v n B R (H .five);
+      free-runs = runs-ok v n B R few (H .three);
+      class-lists = lists-ok v n B R few (H .four);
+      tallies = tally-ok v n B R;
     }

@@ -39,22 +39,18 @@ pub record RunFits (v : Fields) (n inner p : ℕ) : Type 0 where
 unfoldable pub LiesIn : (v : Fields) (n head p : ℕ) → Type 0
 LiesIn v n head p = (q : ℕ) × (q < n) × (kind v q ≡ head) × (q < p) × (p < q + run v q)
 
--- kind 0: inside a free run; only the run's last page has a previous
-pub record InsideFree (v : Fields) (n p : ℕ) : Type 0 where
+-- kinds 0 and 4: inside a run whose first page is of kind `head`
+pub record Inside (v : Fields) (n head p : ℕ) : Type 0 where
   pub no-class : class v p ≡ 0
   pub no-run : run v p ≡ 0
   pub no-map : map v p ≡ 0
-  pub no-next : next v p ≡ noPage
-  pub lies : LiesIn v n 1 p
-  pub no-prev : p + 1 < n → kind v (p + 1) ≡ 0 → prev v p ≡ noPage
+  pub lies : LiesIn v n head p
 
--- kind 1: first of a free run, which no free run touches, and whose last page, if another, leads back
-pub record FirstFree (v : Fields) (n p : ℕ) : Type 0 where
+-- kinds 1 and 3: first of a run whose other pages are of kind `inner`
+pub record First (v : Fields) (n inner p : ℕ) : Type 0 where
   pub no-class : class v p ≡ 0
   pub no-map : map v p ≡ 0
-  pub fits : RunFits v n 0 p
-  pub apart : p + run v p < n → 1 < kind v (p + run v p)
-  pub back : 1 < run v p → prev v (p + run v p - 1) ≡ p
+  pub fits : RunFits v n inner p
 
 -- kind 2: class page; its map's own chunks are marked; the map field is 0 where the map lies in the page, else its unused low bits are
 pub record ClassPage (v : Fields) (p : ℕ) : Type 0 where
@@ -64,31 +60,27 @@ pub record ClassPage (v : Fields) (p : ℕ) : Type 0 where
   pub map-small : class v p < 3 → map v p ≡ 0
   pub map-large : 3 ≤ class v p → map v p % 2 ^ (64 - chunks (class v p)) ≡ 0
 
--- kind 3: first of a taken run
-pub record FirstTaken (v : Fields) (n p : ℕ) : Type 0 where
-  pub no-class : class v p ≡ 0
-  pub no-map : map v p ≡ 0
-  pub no-next : next v p ≡ noPage
-  pub no-prev : prev v p ≡ noPage
-  pub fits : RunFits v n 4 p
+-- kinds, classes, run lengths and maps; no free run touches another
+pub record Shape (v : Fields) (n : ℕ) : Type 0 where
+  pub kinds : (p : ℕ) → p < n → kind v p ≤ 4
+  pub kind0 : (p : ℕ) → p < n → kind v p ≡ 0 → Inside v n 1 p
+  pub kind1 : (p : ℕ) → p < n → kind v p ≡ 1 → First v n 0 p
+  pub apart : (p : ℕ) → p < n → kind v p ≡ 1 → p + run v p < n → 1 < kind v (p + run v p)
+  pub kind2 : (p : ℕ) → p < n → kind v p ≡ 2 → ClassPage v p
+  pub kind3 : (p : ℕ) → p < n → kind v p ≡ 3 → First v n 4 p
+  pub kind4 : (p : ℕ) → p < n → kind v p ≡ 4 → Inside v n 3 p
 
--- kind 4: inside a taken run
-pub record InsideTaken (v : Fields) (n p : ℕ) : Type 0 where
-  pub no-class : class v p ≡ 0
-  pub no-run : run v p ≡ 0
-  pub no-map : map v p ≡ 0
-  pub no-next : next v p ≡ noPage
-  pub no-prev : prev v p ≡ noPage
-  pub lies : LiesIn v n 3 p
+-- zero bits, next and previous: inside a free run only its last page has a previous, the first, and pages of taken runs have no links
+pub record LinksHold (v : Fields) (n : ℕ) : Type 0 where
+  pub spare : (p : ℕ) → p < n → v .spare p ≡ 0
+  pub inside-next : (p : ℕ) → p < n → kind v p ≡ 0 → next v p ≡ noPage
+  pub inside-prev : (p : ℕ) → p < n → kind v p ≡ 0 → p + 1 < n → kind v (p + 1) ≡ 0 → prev v p ≡ noPage
+  pub back : (p : ℕ) → p < n → kind v p ≡ 1 → 1 < run v p → prev v (p + run v p - 1) ≡ p
+  pub taken : (p : ℕ) → p < n → 2 < kind v p → (next v p ≡ noPage) × (prev v p ≡ noPage)
 
 pub record Rule2 (v : Fields) (n : ℕ) : Type 0 where
-  pub spare : (p : ℕ) → p < n → v .spare p ≡ 0
-  pub kinds : (p : ℕ) → p < n → kind v p ≤ 4
-  pub kind0 : (p : ℕ) → p < n → kind v p ≡ 0 → InsideFree v n p
-  pub kind1 : (p : ℕ) → p < n → kind v p ≡ 1 → FirstFree v n p
-  pub kind2 : (p : ℕ) → p < n → kind v p ≡ 2 → ClassPage v p
-  pub kind3 : (p : ℕ) → p < n → kind v p ≡ 3 → FirstTaken v n p
-  pub kind4 : (p : ℕ) → p < n → kind v p ≡ 4 → InsideTaken v n p
+  pub shape : Shape v n
+  pub links : LinksHold v n
 
 -- ---- rules 3 and 4: a list holds each page that belongs on it once and ends; previous leads back
 

@@ -12,8 +12,8 @@ use Rattle.model.specs.View.{usedOf, shown}
 use Rattle.rules.specs.Fields.{Fields, kind, class, run, next, prev, map, first, pageAt}
 use Rattle.rules.specs.Read.{isHead, openAt, readFields}
 
--- ---- rule 2: the pages divide into free runs, taken runs and class pages; no two free runs touch; the maps' own chunks are marked;
--- fields are as described, but for next and previous in kinds 1 and 2
+-- ---- rule 2 in two tests: the shape, that the pages divide into free runs, taken runs and class pages, no two free runs touch, and the maps'
+-- own chunks are marked; and the links. The shape reads kinds, classes, run lengths and maps alone.
 
 -- page p is one of the n pages and of kind k
 unfoldable pub kindAt : (v : Fields) (n k p : ℕ) → Bool
@@ -26,25 +26,18 @@ kindFrom v start k i = eqb (kind v (start + i)) k
 unfoldable pub runFits : (v : Fields) (n p k inner : ℕ) → Bool
 runFits v n p k inner = allOf (ltb 0 k ∷ leb (p + k) n ∷ allBelow (kindFrom v (p + 1) inner) (k - 1) ∷ [])
 
--- kind 0: after a free page; the last page of its run is tested with the first
-unfoldable pub insideFree : (v : Fields) (n p : ℕ) → Bool
-insideFree v n p = allOf (
-    eqb (class v p) 0 ∷ eqb (run v p) 0 ∷ eqb (map v p) 0 ∷ eqb (next v p) noPage ∷
-    ltb 0 p ∷ leb (kind v (p - 1)) 1 ∷
-    pick (kindAt v n 0 (p + 1)) (eqb (prev v p) noPage) true ∷ [])
+-- kind 0: after a free page
+unfoldable pub insideFree : (v : Fields) (p : ℕ) → Bool
+insideFree v p = allOf (
+    eqb (class v p) 0 ∷ eqb (run v p) 0 ∷ eqb (map v p) 0 ∷ ltb 0 p ∷ leb (kind v (p - 1)) 1 ∷ [])
 
 -- no free page stands at x
 unfoldable pub endsFree : (v : Fields) (n x : ℕ) → Bool
 endsFree v n x = pick (ltb x n) (ltb 1 (kind v x)) true
 
--- the last of the k pages from p on leads back to p, where there are two or more
-unfoldable pub lastBack : (v : Fields) (p k : ℕ) → Bool
-lastBack v p k = pick (ltb 1 k) (eqb (prev v (p + k - 1)) p) true
-
 -- kind 1: its run of k pages, after which no free page comes
 unfoldable pub freeRun : (v : Fields) (n p k : ℕ) → Bool
-freeRun v n p k = allOf (
-    eqb (class v p) 0 ∷ eqb (map v p) 0 ∷ runFits v n p k 0 ∷ endsFree v n (p + k) ∷ lastBack v p k ∷ [])
+freeRun v n p k = allOf (eqb (class v p) 0 ∷ eqb (map v p) 0 ∷ runFits v n p k 0 ∷ endsFree v n (p + k) ∷ [])
 
 unfoldable pub firstFree : (v : Fields) (n p : ℕ) → Bool
 firstFree v n p = freeRun v n p (run v p)
@@ -66,9 +59,7 @@ endsTaken v n x = pick (ltb x n) (not (eqb (kind v x) 4)) true
 
 -- kind 3: its run of k pages
 unfoldable pub takenRun : (v : Fields) (n p k : ℕ) → Bool
-takenRun v n p k = allOf (
-    eqb (class v p) 0 ∷ eqb (map v p) 0 ∷ eqb (next v p) noPage ∷ eqb (prev v p) noPage ∷
-    runFits v n p k 4 ∷ endsTaken v n (p + k) ∷ [])
+takenRun v n p k = allOf (eqb (class v p) 0 ∷ eqb (map v p) 0 ∷ runFits v n p k 4 ∷ endsTaken v n (p + k) ∷ [])
 
 unfoldable pub firstTaken : (v : Fields) (n p : ℕ) → Bool
 firstTaken v n p = takenRun v n p (run v p)
@@ -76,8 +67,7 @@ firstTaken v n p = takenRun v n p (run v p)
 -- kind 4: after a page of a taken run
 unfoldable pub insideTaken : (v : Fields) (p : ℕ) → Bool
 insideTaken v p = allOf (
-    eqb (class v p) 0 ∷ eqb (run v p) 0 ∷ eqb (map v p) 0 ∷ eqb (next v p) noPage ∷ eqb (prev v p) noPage ∷
-    ltb 0 p ∷ ltb 2 (kind v (p - 1)) ∷ [])
+    eqb (class v p) 0 ∷ eqb (run v p) 0 ∷ eqb (map v p) 0 ∷ ltb 0 p ∷ ltb 2 (kind v (p - 1)) ∷ [])
 
 -- there are no kinds past 4
 abbrev pub byKind : ℕ → Bool → Bool → Bool → Bool → Bool → Bool
@@ -88,11 +78,31 @@ byKind (suc (suc (suc zero))) a b c d e = d
 byKind (suc (suc (suc (suc zero)))) a b c d e = e
 byKind (suc (suc (suc (suc (suc k))))) a b c d e = false
 
+unfoldable pub shapeAt : (v : Fields) (n p : ℕ) → Bool
+shapeAt v n p = byKind (kind v p) (insideFree v p) (firstFree v n p) (classPage v p) (firstTaken v n p) (insideTaken v p)
+
+unfoldable pub shape : (v : Fields) (n : ℕ) → Bool
+shape v n = allBelow (shapeAt v n) n
+
+-- links of kind 0: only the last page of its run has a previous, which is tested with the first
+unfoldable pub insideLinks : (v : Fields) (n p : ℕ) → Bool
+insideLinks v n p = pick (eqb (next v p) noPage) (pick (kindAt v n 0 (p + 1)) (eqb (prev v p) noPage) true) false
+
+-- of kind 1: the last of the k pages from p on leads back to p, where there are two or more
+unfoldable pub lastBack : (v : Fields) (p k : ℕ) → Bool
+lastBack v p k = pick (ltb 1 k) (eqb (prev v (p + k - 1)) p) true
+
+-- of kinds 3 and 4
+unfoldable pub noLinks : (v : Fields) (p : ℕ) → Bool
+noLinks v p = pick (eqb (next v p) noPage) (eqb (prev v p) noPage) false
+
+-- the nine zero bits, and next and previous but for those along a list
+unfoldable pub linksFitAt : (v : Fields) (n p : ℕ) → Bool
+linksFitAt v n p =
+    pick (eqb (v .spare p) 0) (byKind (kind v p) (insideLinks v n p) (lastBack v p (run v p)) true (noLinks v p) (noLinks v p)) false
+
 unfoldable pub rule2At : (v : Fields) (n p : ℕ) → Bool
-rule2At v n p =
-    pick (eqb (v .spare p) 0)
-    (byKind (kind v p) (insideFree v n p) (firstFree v n p) (classPage v p) (firstTaken v n p) (insideTaken v p))
-    false
+rule2At v n p = pick (shapeAt v n p) (linksFitAt v n p) false
 
 unfoldable pub rule2 : (v : Fields) (n : ℕ) → Bool
 rule2 v n = allBelow (rule2At v n) n

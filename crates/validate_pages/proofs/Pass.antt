@@ -25,7 +25,7 @@ use Rattle.classes.proofs.Numbers.{chunks-512}
 use Rattle.map_count.proofs.Counts.{count-le}
 use Rattle.rules.specs.Fields.{Fields, kind, class, pageAt}
 use Rattle.rules.specs.Read.{isHead, openAt}
-use Rattle.rules.specs.Rules.{mapFits, classWith, classPage, rule2At, inUse, fullAlone}
+use Rattle.rules.specs.Rules.{mapFits, classWith, classPage, shapeAt, inUse, fullAlone}
 use Rattle.rules.specs.Bytes.{pagesIn, imageOf, fieldsOf}
 use Rattle.validate_pages.specs.Mirror.{classShare, freeShare, faultShare, share, Counted, onesAt, classWeight, classFault, addAt, classAdded, kindAdded, pageAdded}
 use Rattle.validate_pages.proofs.Shares.{ones-marks, page-is, plain-share, slab-share}
@@ -107,7 +107,7 @@ module _ (t : List ℕ) (c x y : ℕ) (h : ℕ → ℕ) (len : length t ≡ 11) 
 
 -- ---- one page
 
--- rule 2 at a class page
+-- the shape of a class page
 pub record Slab (w : ℕ) (s : List ℕ) (p : ℕ) : Type 0 where
   pub in-range : class (fieldsOf w s) p ≤ 8
   pub own-set : allBelow (fieldsOf w s .mark p) (own (class (fieldsOf w s) p)) ≡ true
@@ -122,17 +122,17 @@ slab-of w s p e =
     let d = both-true _ _ (c .1) in
     record { in-range = leb-true _ _ (a .0); own-set = c .0; fits = d .0 }
 
--- rule 2 at a page of kind k
-pub kind-of : (w : ℕ) (s : List ℕ) (n p k : ℕ) → rule2At (fieldsOf w s) n p ≡ true → kind (fieldsOf w s) p ≡ k → (k ≤ 4) × (k ≡ 2 → Slab w s p)
-unfolding rule2At
+-- the shape of a page of kind k
+pub kind-of : (w : ℕ) (s : List ℕ) (n p k : ℕ) → shapeAt (fieldsOf w s) n p ≡ true → kind (fieldsOf w s) p ≡ k → (k ≤ 4) × (k ≡ 2 → Slab w s p)
+unfolding shapeAt
 kind-of w s n p zero e d = (omega arith, λ z. absurd (omega arith))
 kind-of w s n p (suc zero) e d = (omega arith, λ z. absurd (omega arith))
-kind-of w s n p (suc (suc zero)) e d = (omega arith, λ z. slab-of w s p (rw d at (both-true _ _ e .1)))
+kind-of w s n p (suc (suc zero)) e d = (omega arith, λ z. slab-of w s p (rw d at e))
 kind-of w s n p (suc (suc (suc zero))) e d = (omega arith, λ z. absurd (omega arith))
 kind-of w s n p (suc (suc (suc (suc zero)))) e d = (omega arith, λ z. absurd (omega arith))
-kind-of w s n p (suc (suc (suc (suc (suc k))))) e d = absurd (false≢true (rw d at (both-true _ _ e .1)))
+kind-of w s n p (suc (suc (suc (suc (suc k))))) e d = absurd (false≢true (rw d at e))
 
-module _ (w : ℕ) (s : List ℕ) (n p : ℕ) (B : Bytes s) (pages : n ≡ pagesIn w s) (h : p < n) (ok : rule2At (fieldsOf w s) n p ≡ true) where
+module _ (w : ℕ) (s : List ℕ) (n p : ℕ) (B : Bytes s) (pages : n ≡ pagesIn w s) (h : p < n) (ok : shapeAt (fieldsOf w s) n p ≡ true) where
   -- the set marks of a class page, counted by its words, are those that the rules speak of
   pub slab-ones : Slab w s p → onesAt w s p (class (fieldsOf w s) p) ≡ count (fieldsOf w s .mark p) (chunks (class (fieldsOf w s) p))
   unfolding fieldsOf imageOf
@@ -192,7 +192,7 @@ pub pass-none : (v : Fields) (n : ℕ) (t : List ℕ) → length t ≡ 11 → ((
 unfolding sum
 pass-none v n t e z = record { len = e; counted = λ j l. z j }
 
-module _ (w : ℕ) (s : List ℕ) (n p : ℕ) (B : Bytes s) (pages : n ≡ pagesIn w s) (most : n ≤ 4096) (h : p < n) (u : Bool) (fits : u ≡ rule2At (fieldsOf w s) n p) (on : not u ≡ false) where
+module _ (w : ℕ) (s : List ℕ) (n p : ℕ) (B : Bytes s) (pages : n ≡ pagesIn w s) (most : n ≤ 4096) (h : p < n) (u : Bool) (fits : u ≡ shapeAt (fieldsOf w s) n p) (on : not u ≡ false) where
   pub pass-more : (t t′ : List ℕ) (l : Links) → Passed (fieldsOf w s) n p t → l ≡ fieldsOf w s .image .links p → t′ ≡ pageAdded w s t p l → Passed (fieldsOf w s) n (p + 1) t′
   unfolding sum
   pass-more t t′ l K e d = record {

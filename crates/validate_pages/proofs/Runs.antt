@@ -17,7 +17,7 @@ use Rattle.records.specs.Layout.{linksPlace}
 use Rattle.records.specs.Page.{unpackLinks, linksAt}
 use Rattle.records.specs.declared.Links.{Links}
 use Rattle.rules.specs.Fields.{Fields, kind, run}
-use Rattle.rules.specs.Rules.{classPage, rule2At, rule2}
+use Rattle.rules.specs.Rules.{insideFree, firstFree, classPage, firstTaken, insideTaken, byKind, shapeAt, linksFitAt, rule2At, rule2}
 use Rattle.rules.specs.Bytes.{pagesIn, imageOf, fieldsOf}
 use Rattle.validate_runs.specs.Mirror.{freeWhole, takenWhole, Kept, Border}
 use Rattle.validate_runs.proofs.Whole.{free-kept, free-ends, free-must, taken-kept, taken-ends, taken-must, border-free, border-taken, border-class}
@@ -53,12 +53,20 @@ each : (v : Fields) (n : ℕ) → rule2 v n ≡ true → (j : ℕ) → j < n →
 unfolding rule2
 each v n e = all-at (rule2At v n) n e
 
+shaped : (v : Fields) (n p : ℕ) → rule2At v n p ≡ true → shapeAt v n p ≡ true
+unfolding rule2At
+shaped v n p e = both-true _ _ e .0
+
+by-kind : (v : Fields) (n p : ℕ) → rule2At v n p ≡ true → byKind (kind v p) (insideFree v p) (firstFree v n p) (classPage v p) (firstTaken v n p) (insideTaken v p) ≡ true
+unfolding shapeAt
+by-kind v n p e = shaped v n p e
+
 -- by the word v of the page's links
 module _ (w : ℕ) (s : List ℕ) (n p x : ℕ) (h : p < n) (e : x ≡ word s (linksPlace w p)) where
   pub stays-spare : (t t′ : List ℕ) → x % 512 ≢ 0 → Steps (fieldsOf w s) n p p t t′
-  unfolding rule2At fieldsOf
+  unfolding rule2At linksFitAt fieldsOf
   stays-spare t t′ d =
-      stays (fieldsOf w s) n p t t′ h (λ a. d (ap (λ (y : ℕ). y % 512) e ∙ eqb-true _ 0 (both-true _ _ (each (fieldsOf w s) n a p h) .0)))
+      stays (fieldsOf w s) n p t t′ h (λ a. d (ap (λ (y : ℕ). y % 512) e ∙ eqb-true _ 0 (both-true _ _ (both-true _ _ (each (fieldsOf w s) n a p h) .1) .0)))
 
   pub here : n ≡ pagesIn w s → n ≤ 4096 → x % 512 ≡ 0 → Here w s n p (unpackLinks x)
   here a b z = record { pages = a; few = b; below = h; is = links-is; plain = spare-is z }
@@ -78,7 +86,6 @@ module _ {w : ℕ} {s : List ℕ} {n p : ℕ} {l : Links} (H : Here w s n p l) w
 
   -- a page that begins neither a run nor a class page
   pub stays-kind : (t t′ : List ℕ) → Border v n p → l .kind ≢ 1 → l .kind ≢ 2 → l .kind ≢ 3 → Steps v n p p t t′
-  unfolding rule2At
   stays-kind t t′ b x y z = stays v n p t t′ (H .below) (λ a. go (l .kind) refl x y z (each v n a p (H .below)))
     where
       go : (k : ℕ) → l .kind ≡ k → k ≢ 1 → k ≢ 2 → k ≢ 3 → rule2At v n p ≡ true → ⊥
@@ -87,13 +94,13 @@ module _ {w : ℕ} {s : List ℕ} {n p : ℕ} {l : Links} (H : Here w s n p l) w
       go (suc (suc zero)) e x y z a = y refl
       go (suc (suc (suc zero))) e x y z a = z refl
       go (suc (suc (suc (suc zero)))) e x y z a = b a .1 (is-kind 4 e)
-      go (suc (suc (suc (suc (suc k))))) e x y z a = clash (rw (is-kind _ e) at (both-true _ _ a .1)) refl
+      go (suc (suc (suc (suc (suc k))))) e x y z a = clash (rw (is-kind _ e) at (by-kind v n p a)) refl
 
   -- ---- the counters of a run
 
   module _ (B : Bytes s) (t : List ℕ) where
     more : (q : ℕ) (x x′ : List ℕ) → q < n → rule2At v n q ≡ true → Passed v n q x → x′ ≡ pageAdded w s x q (v .image .links q) → Passed v n (q + 1) x′
-    more q x x′ h a K d = pass-more w s n q B (H .pages) (H .few) h true (sym a) refl x x′ _ K refl d
+    more q x x′ h a K d = pass-more w s n q B (H .pages) (H .few) h true (sym (shaped v n q a)) refl x x′ _ K refl d
 
     addAt-twice : (a b : ℕ) → length t ≡ 11 → addAt t 9 (a + b) ≡ addAt (addAt t 9 a) 9 b
     unfolding addAt
@@ -168,16 +175,15 @@ module _ {w : ℕ} {s : List ℕ} {n p : ℕ} {l : Links} (H : Here w s n p l) w
           rw (H .is) f
 
       class-kept : l .kind ≡ 2 → u ≡ classPage v p → not u ≡ false → rule2At v n p ≡ true
-      unfolding rule2At pick
-      class-kept k e o = rw (H .plain, is-kind 2 k) (sym e ∙ not-false u o)
+      unfolding rule2At shapeAt linksFitAt pick
+      class-kept k e o = rw (H .plain, is-kind 2 k, sym e ∙ not-false u o)
 
       pub class-in : u ≡ classPage v p → not u ≡ false → l .class ≤ 8
       class-in e o = rw (H .is) (slab-of w s p (sym e ∙ not-false u o) .in-range)
 
       pub class-stays : (t′ : List ℕ) → l .kind ≡ 2 → u ≡ classPage v p → not u ≡ true → Steps v n p p t t′
-      unfolding rule2At
       class-stays t′ k e o =
-          stays v n p t t′ (H .below) (λ a. clash (rw (is-kind 2 k) at (both-true _ _ (each v n a p (H .below)) .1)) (sym e ∙ not-true u o))
+          stays v n p t t′ (H .below) (λ a. clash (rw (is-kind 2 k) at (by-kind v n p (each v n a p (H .below)))) (sym e ∙ not-true u o))
 
       pub class-steps : (t′ : List ℕ) → l .kind ≡ 2 → u ≡ classPage v p → not u ≡ false
           → t′ ≡ classAdded t (l .class) (onesAt w s p (l .class)) l → Steps v n p (p + 1) t t′

@@ -26,7 +26,7 @@ pub const SECOND: u64 = 4294967296;
 pub const THIRD: u64 = 281474976710656;
 
 // Adds x to counter j.
-fn add_at(t: &mut [u64; 11], j: usize, x: u64)
+pub fn add_at(t: &mut [u64; 11], j: usize, x: u64)
     requires { ⌜ j < 11 ⌝ }
     ensures { λ _. ⌜ now (t .exit) ≡ addAt (now (t .entry)) j x ⌝ }
 {
@@ -77,7 +77,7 @@ fn class_fault(c: u8, ones: usize, v: u64) -> u64
 }
 
 // The class page p, with the links of the word v.
-fn add_class(pool: &[u8], w: u8, n: usize, p: PageNumber, v: u64, t: &mut [u64; 11])
+pub fn add_class(pool: &[u8], w: u8, n: usize, p: PageNumber, v: u64, t: &mut [u64; 11])
     requires { ⌜ (n ≡ pagesIn w (now pool)) × (p .0 < n) × (n ≤ 65535) × (unpackLinks v .class ≤ 8) ⌝ }
     ensures { λ _. ⌜ now (t .exit) ≡ classAdded (now (t .entry)) (unpackLinks v .class) (onesAt w (now (pool .entry)) (p .0) (unpackLinks v .class)) (unpackLinks v) ⌝ }
 {

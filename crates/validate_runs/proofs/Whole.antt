@@ -17,7 +17,7 @@ use Rattle.records.specs.declared.Links.{Links}
 use Rattle.records.specs.Page.{packLinks, unpackLinks, linksAt}
 use Rattle.records.proofs.Laws.{pack-unpack-links}
 use Rattle.rules.specs.Fields.{Fields, kind, class, run, next, prev, map}
-use Rattle.rules.specs.Rules.{kindAt, kindFrom, runFits, insideFree, endsFree, lastBack, freeRun, firstFree, endsTaken, takenRun, firstTaken, insideTaken, rule2At}
+use Rattle.rules.specs.Rules.{kindAt, kindFrom, runFits, insideFree, endsFree, freeRun, firstFree, classPage, endsTaken, takenRun, firstTaken, insideTaken, byKind, shapeAt, insideLinks, lastBack, noLinks, linksFitAt, rule2At}
 use Rattle.rules.specs.Drawn.{links}
 use Rattle.rules.specs.Bytes.{imageOf, fieldsOf}
 use Rattle.validate_runs.specs.Mirror.{plainAt, plainFrom, begins, lastPlain, freeInside, freeRest, freeWhole, takenRest, takenWhole, Kept, Border}
@@ -26,72 +26,89 @@ use Rattle.validate_runs.specs.Mirror.{plainAt, plainFrom, begins, lastP
 
 module _ (v : Fields) (n p : ℕ) where
   spare-none : rule2At v n p ≡ true → v .spare p ≡ 0
-  unfolding rule2At
-  spare-none e = eqb-true (v .spare p) 0 (both-true _ _ e .0)
+  unfolding rule2At linksFitAt
+  spare-none e = eqb-true (v .spare p) 0 (both-true _ _ (both-true _ _ e .1) .0)
 
-  at-0 : kind v p ≡ 0 → rule2At v n p ≡ true → insideFree v n p ≡ true
-  unfolding rule2At
-  at-0 k e = rw k at (both-true _ _ e .1)
+  shape-by : rule2At v n p ≡ true → byKind (kind v p) (insideFree v p) (firstFree v n p) (classPage v p) (firstTaken v n p) (insideTaken v p) ≡ true
+  unfolding rule2At shapeAt
+  shape-by e = both-true _ _ e .0
 
-  at-1 : kind v p ≡ 1 → rule2At v n p ≡ true → firstFree v n p ≡ true
-  unfolding rule2At
-  at-1 k e = rw k at (both-true _ _ e .1)
+  links-by : rule2At v n p ≡ true → byKind (kind v p) (insideLinks v n p) (lastBack v p (run v p)) true (noLinks v p) (noLinks v p) ≡ true
+  unfolding rule2At linksFitAt
+  links-by e = both-true _ _ (both-true _ _ e .1) .1
 
-  at-3 : kind v p ≡ 3 → rule2At v n p ≡ true → firstTaken v n p ≡ true
-  unfolding rule2At
-  at-3 k e = rw k at (both-true _ _ e .1)
+  at-0 : kind v p ≡ 0 → rule2At v n p ≡ true → (insideFree v p ≡ true) × (insideLinks v n p ≡ true)
+  at-0 k e = (rw k at (shape-by e), rw k at (links-by e))
 
-  at-4 : kind v p ≡ 4 → rule2At v n p ≡ true → insideTaken v p ≡ true
-  unfolding rule2At
-  at-4 k e = rw k at (both-true _ _ e .1)
+  at-1 : kind v p ≡ 1 → rule2At v n p ≡ true → (firstFree v n p ≡ true) × (lastBack v p (run v p) ≡ true)
+  at-1 k e = (rw k at (shape-by e), rw k at (links-by e))
 
-  kept-0 : v .spare p ≡ 0 → kind v p ≡ 0 → insideFree v n p ≡ true → rule2At v n p ≡ true
-  unfolding rule2At pick
-  kept-0 z k e = rw (z, k) e
+  at-3 : kind v p ≡ 3 → rule2At v n p ≡ true → (firstTaken v n p ≡ true) × (noLinks v p ≡ true)
+  at-3 k e = (rw k at (shape-by e), rw k at (links-by e))
 
-  kept-1 : v .spare p ≡ 0 → kind v p ≡ 1 → firstFree v n p ≡ true → rule2At v n p ≡ true
-  unfolding rule2At pick
-  kept-1 z k e = rw (z, k) e
+  at-4 : kind v p ≡ 4 → rule2At v n p ≡ true → (insideTaken v p ≡ true) × (noLinks v p ≡ true)
+  at-4 k e = (rw k at (shape-by e), rw k at (links-by e))
 
-  kept-3 : v .spare p ≡ 0 → kind v p ≡ 3 → firstTaken v n p ≡ true → rule2At v n p ≡ true
-  unfolding rule2At pick
-  kept-3 z k e = rw (z, k) e
+  kept-0 : v .spare p ≡ 0 → kind v p ≡ 0 → (insideFree v p ≡ true) × (insideLinks v n p ≡ true) → rule2At v n p ≡ true
+  unfolding rule2At shapeAt linksFitAt pick
+  kept-0 z k (e, l) = rw (z, k) (pick-both _ _ e l)
 
-  kept-4 : v .spare p ≡ 0 → kind v p ≡ 4 → insideTaken v p ≡ true → rule2At v n p ≡ true
-  unfolding rule2At pick
-  kept-4 z k e = rw (z, k) e
+  kept-1 : v .spare p ≡ 0 → kind v p ≡ 1 → firstFree v n p ≡ true → lastBack v p (run v p) ≡ true → rule2At v n p ≡ true
+  unfolding rule2At shapeAt linksFitAt pick
+  kept-1 z k e l = rw (z, k) (pick-both _ _ e l)
+
+  kept-3 : v .spare p ≡ 0 → kind v p ≡ 3 → firstTaken v n p ≡ true → noLinks v p ≡ true → rule2At v n p ≡ true
+  unfolding rule2At shapeAt linksFitAt pick
+  kept-3 z k e l = rw (z, k) (pick-both _ _ e l)
+
+  kept-4 : v .spare p ≡ 0 → kind v p ≡ 4 → (insideTaken v p ≡ true) × (noLinks v p ≡ true) → rule2At v n p ≡ true
+  unfolding rule2At shapeAt linksFitAt pick
+  kept-4 z k (e, l) = rw (z, k) (pick-both _ _ e l)
+
+  no-links : next v p ≡ noPage → prev v p ≡ noPage → noLinks v p ≡ true
+  unfolding noLinks
+  no-links f q = pick-both _ _ (eq-eqb _ noPage f) (eq-eqb _ noPage q)
+
+  no-links-says : noLinks v p ≡ true → (next v p ≡ noPage) × (prev v p ≡ noPage)
+  unfolding noLinks
+  no-links-says e = let (f, q) = both-true _ _ e in (eqb-true _ _ f, eqb-true _ _ q)
 
   inside-free : class v p ≡ 0 → run v p ≡ 0 → map v p ≡ 0 → next v p ≡ noPage → 0 < p → kind v (p - 1) ≤ 1 → (kindAt v n 0 (p + 1) ≡ true → prev v p ≡ noPage)
-      → insideFree v n p ≡ true
-  unfolding insideFree
-  inside-free c r m f h b q =
-      all-of _ (eq-eqb _ 0 c & eq-eqb _ 0 r & eq-eqb _ 0 m & eq-eqb _ noPage f & lt-ltb 0 p h & le-leb _ 1 b & if-asked _ _ (λ a. eq-eqb _ noPage (q a)) & tt)
+      → (insideFree v p ≡ true) × (insideLinks v n p ≡ true)
+  unfolding insideFree insideLinks
+  inside-free c r m f h b q = (
+    all-of _ (eq-eqb _ 0 c & eq-eqb _ 0 r & eq-eqb _ 0 m & lt-ltb 0 p h & le-leb _ 1 b & tt),
+    pick-both _ _ (eq-eqb _ noPage f) (if-asked _ _ (λ a. eq-eqb _ noPage (q a))),
+  )
 
-  inside-taken : class v p ≡ 0 → run v p ≡ 0 → map v p ≡ 0 → next v p ≡ noPage → prev v p ≡ noPage → 0 < p → 2 < kind v (p - 1) → insideTaken v p ≡ true
+  inside-taken : class v p ≡ 0 → run v p ≡ 0 → map v p ≡ 0 → next v p ≡ noPage → prev v p ≡ noPage → 0 < p → 2 < kind v (p - 1)
+      → (insideTaken v p ≡ true) × (noLinks v p ≡ true)
   unfolding insideTaken
-  inside-taken c r m f q h b =
-      all-of _ (eq-eqb _ 0 c & eq-eqb _ 0 r & eq-eqb _ 0 m & eq-eqb _ noPage f & eq-eqb _ noPage q & lt-ltb 0 p h & lt-ltb 2 _ b & tt)
+  inside-taken c r m f q h b = (all-of _ (eq-eqb _ 0 c & eq-eqb _ 0 r & eq-eqb _ 0 m & lt-ltb 0 p h & lt-ltb 2 _ b & tt), no-links f q)
 
-  inside-free-says : insideFree v n p ≡ true → (class v p ≡ 0) × (run v p ≡ 0) × (map v p ≡ 0) × (next v p ≡ noPage) × (0 < p) × (kind v (p - 1) ≤ 1)
+  inside-free-says : (insideFree v p ≡ true) × (insideLinks v n p ≡ true)
+      → (class v p ≡ 0) × (run v p ≡ 0) × (map v p ≡ 0) × (next v p ≡ noPage) × (0 < p) × (kind v (p - 1) ≤ 1)
       × (p + 1 < n → kind v (p + 1) ≡ 0 → prev v p ≡ noPage)
-  unfolding insideFree kindAt
-  inside-free-says e =
-      let x = each-of _ e in (
+  unfolding insideFree insideLinks kindAt
+  inside-free-says (e, l) =
+      let x = each-of _ e in
+      let y = both-true _ _ l in (
         eqb-true _ _ (x .0),
         eqb-true _ _ (x .1 .0),
         eqb-true _ _ (x .1 .1 .0),
-        eqb-true _ _ (x .1 .1 .1 .0),
-        ltb-true _ _ (x .1 .1 .1 .1 .0),
-        leb-true _ _ (x .1 .1 .1 .1 .1 .0),
-        λ h k. eqb-true _ _ (asked _ _ (x .1 .1 .1 .1 .1 .1 .0) (pick-both _ _ (lt-ltb (p + 1) n h) (eq-eqb _ 0 k))),
+        eqb-true _ _ (y .0),
+        ltb-true _ _ (x .1 .1 .1 .0),
+        leb-true _ _ (x .1 .1 .1 .1 .0),
+        λ h k. eqb-true _ _ (asked _ _ (y .1) (pick-both _ _ (lt-ltb (p + 1) n h) (eq-eqb _ 0 k))),
       )
 
-  inside-taken-says : insideTaken v p ≡ true
+  inside-taken-says : (insideTaken v p ≡ true) × (noLinks v p ≡ true)
       → (class v p ≡ 0) × (run v p ≡ 0) × (map v p ≡ 0) × (next v p ≡ noPage) × (prev v p ≡ noPage) × (0 < p) × (2 < kind v (p - 1))
   unfolding insideTaken
-  inside-taken-says e =
+  inside-taken-says (e, l) =
       let x = each-of _ e in
-      (eqb-true _ _ (x .0), eqb-true _ _ (x .1 .0), eqb-true _ _ (x .1 .1 .0), eqb-true _ _ (x .1 .1 .1 .0), eqb-true _ _ (x .1 .1 .1 .1 .0), ltb-true _ _ (x .1 .1 .1 .1 .1 .0), ltb-true _ _ (x .1 .1 .1 .1 .1 .1 .0))
+      let y = no-links-says l in
+      (eqb-true _ _ (x .0), eqb-true _ _ (x .1 .0), eqb-true _ _ (x .1 .1 .0), y .0, y .1, ltb-true _ _ (x .1 .1 .1 .0), ltb-true _ _ (x .1 .1 .1 .1 .0))
 
   fits-says : (k inner : ℕ) → runFits v n p k inner ≡ true → (0 < k) × (p + k ≤ n) × ((j : ℕ) → p < j → j < p + k → kind v j ≡ inner)
   unfolding runFits kindFrom
@@ -231,7 +248,7 @@ module _ (w : ℕ) (s : List ℕ) where
 
       first-kept : rule2At v n p ≡ true
       unfolding firstFree freeRun
-      first-kept = kept-1 v n p z first (all-of _ (eq-eqb _ 0 (tests .0) & eq-eqb _ 0 (tests .1) & fits & ends & back & tt))
+      first-kept = kept-1 v n p z first (all-of _ (eq-eqb _ 0 (tests .0) & eq-eqb _ 0 (tests .1) & fits & ends & tt)) back
 
       pub free-kept : Kept v n p k 0
       free-kept = record {
@@ -249,8 +266,9 @@ module _ (w : ℕ) (s : List ℕ) where
       says : (class v p ≡ 0) × (map v p ≡ 0) × (runFits v n p k 0 ≡ true) × (endsFree v n (p + k) ≡ true) × (1 < k → prev v (p + k - 1) ≡ p)
       unfolding firstFree freeRun lastBack
       says =
-          let x = each-of _ (at-1 v n p first (all p h)) in
-          (eqb-true _ _ (x .0), eqb-true _ _ (x .1 .0), x .1 .1 .0, x .1 .1 .1 .0, λ l. eqb-true _ _ (asked _ _ (x .1 .1 .1 .1 .0) (lt-ltb 1 k l)))
+          let a = at-1 v n p first (all p h) in
+          let x = each-of _ (a .0) in
+          (eqb-true _ _ (x .0), eqb-true _ _ (x .1 .0), x .1 .1 .0, x .1 .1 .1 .0, λ l. eqb-true _ _ (asked _ _ (a .1) (lt-ltb 1 k l)))
 
       fit : (0 < k) × (p + k ≤ n) × ((j : ℕ) → p < j → j < p + k → kind v j ≡ 0)
       fit = fits-says v n p k 0 (says .2)
@@ -333,7 +351,7 @@ module _ (w : ℕ) (s : List ℕ) where
       unfolding firstTaken takenRun
       taken-first =
           let t = taken-tests in
-          kept-3 v n p z first (all-of _ (eq-eqb _ 0 (t .0) & eq-eqb _ 0 (t .1) & eq-eqb _ noPage (t .2) & eq-eqb _ noPage (t .3) & taken-fits & taken-ends & tt))
+          kept-3 v n p z first (all-of _ (eq-eqb _ 0 (t .0) & eq-eqb _ 0 (t .1) & taken-fits & taken-ends & tt)) (no-links v n p (t .2) (t .3))
 
       pub taken-kept : Kept v n p (run v p) 4
       taken-kept = record {
@@ -347,8 +365,10 @@ module _ (w : ℕ) (s : List ℕ) where
       taken-says : (class v p ≡ 0) × (map v p ≡ 0) × (next v p ≡ noPage) × (prev v p ≡ noPage) × (runFits v n p (run v p) 4 ≡ true) × (endsTaken v n (p + run v p) ≡ true)
       unfolding firstTaken takenRun
       taken-says =
-          let x = each-of _ (at-3 v n p first (all p h)) in
-          (eqb-true _ _ (x .0), eqb-true _ _ (x .1 .0), eqb-true _ _ (x .1 .1 .0), eqb-true _ _ (x .1 .1 .1 .0), x .1 .1 .1 .1 .0, x .1 .1 .1 .1 .1 .0)
+          let a = at-3 v n p first (all p h) in
+          let x = each-of _ (a .0) in
+          let y = no-links-says v n p (a .1) in
+          (eqb-true _ _ (x .0), eqb-true _ _ (x .1 .0), y .0, y .1, x .1 .1 .0, x .1 .1 .1 .0)
 
       taken-fit : (0 < run v p) × (p + run v p ≤ n) × ((j : ℕ) → p < j → j < p + run v p → kind v j ≡ 4)
       taken-fit = fits-says v n p (run v p) 4 (taken-says .4)

@@ -53,7 +53,7 @@ fn begins_run(pool: &[u8], w: u8, n: usize, p: PageNumber, v: u64) -> bool
 }
 
 // Whether no free page stands at x.
-fn ends_free(pool: &[u8], w: u8, n: usize, x: usize) -> bool
+pub fn ends_free(pool: &[u8], w: u8, n: usize, x: usize) -> bool
     requires { ⌜ n ≤ 65535 ⌝ }
     ensures { λ r. ⌜ r ≡ endsFree (fieldsOf w (now (pool .entry))) n x ⌝ }
 {
@@ -120,7 +120,7 @@ pub fn free_whole(pool: &[u8], w: u8, n: usize, p: PageNumber, v: u64) -> bool
 }
 
 // Whether no page inside a taken run stands at x.
-fn ends_taken(pool: &[u8], w: u8, n: usize, x: usize) -> bool
+pub fn ends_taken(pool: &[u8], w: u8, n: usize, x: usize) -> bool
     requires { ⌜ n ≤ 65535 ⌝ }
     ensures { λ r. ⌜ r ≡ endsTaken (fieldsOf w (now (pool .entry))) n x ⌝ }
 {

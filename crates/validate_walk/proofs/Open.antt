@@ -19,7 +19,7 @@ use Rattle.map_occupancy.proofs.Told.{full-is}
 use Rattle.records.specs.Layout.{mapPlace, pagesFrom}
 use Rattle.rules.specs.Fields.{Fields, kind, class, pageAt}
 use Rattle.rules.specs.Read.{isHead, openAt}
-use Rattle.rules.specs.Rules.{rule2At, rule2}
+use Rattle.rules.specs.Rules.{shapeAt, shape}
 use Rattle.rules.specs.Bytes.{pagesIn, mapBase, markAt, imageOf, fieldsOf}
 use Rattle.validate_slabs.proofs.Top.{map-inside}
 use Rattle.base.proofs.AllBelow.{all-at}
@@ -27,13 +27,13 @@ use Rattle.validate_pages.proofs.Shares.{page-is, map-marks}
 use Rattle.validate_pages.proofs.Pass.{Slab, kind-of}
 use Rattle.validate_walk.specs.Mirror.{belongs}
 
-module _ (w : ℕ) (s : List ℕ) (n p : ℕ) (B : Bytes s) (pages : n ≡ pagesIn w s) (ok : rule2 (fieldsOf w s) n ≡ true) (h : p < n) where
+module _ (w : ℕ) (s : List ℕ) (n p : ℕ) (B : Bytes s) (pages : n ≡ pagesIn w s) (ok : shape (fieldsOf w s) n ≡ true) (h : p < n) where
   abbrev v : Fields
   v = fieldsOf w s
 
-  at : rule2At v n p ≡ true
-  unfolding rule2
-  at = all-at (rule2At v n) n ok p h
+  at : shapeAt v n p ≡ true
+  unfolding shape
+  at = all-at (shapeAt v n) n ok p h
 
   module _ (S : Slab w s p) where
     abbrev c : ℕ

@@ -1,4 +1,4 @@
-// Walks along the lists of a pool whose pages keep rule 2: with as many pages to come as belong on the list, a walk ends.
+// Walks along the lists of a pool whose pages are well shaped (rule 2, links set aside): with as many pages to come as belong on the list, a walk ends.
 use records::CLASS_PAGE;
 use records::FIRST_FREE;
 use records::NO_PAGE;
@@ -11,7 +11,7 @@ ghost use Rattle.base.specs.Tests.{pick};
 ghost use Rattle.records.specs.Layout.{noPage};
 ghost use Rattle.rules.specs.Fields.{kind, class, next, prev};
 ghost use Rattle.rules.specs.Read.{isHead, openAt};
-ghost use Rattle.rules.specs.Rules.{rule2, linked};
+ghost use Rattle.rules.specs.Rules.{shape, linked};
 ghost use Rattle.rules.specs.Bytes.{pagesIn, mapBase, fieldsOf};
 ghost use Rattle.map_occupancy.specs.Mirror.{isFull};
 ghost use Rattle.validate_walk.specs.Mirror.{belongs};
@@ -31,7 +31,7 @@ fn leads_back(pool: &[u8], w: u8, p: PageNumber, before: PageNumber) -> bool
 }
 
 // Whether p is the first page of a free run.
-fn is_head(pool: &[u8], w: u8, n: usize, p: PageNumber) -> bool
+pub fn is_head(pool: &[u8], w: u8, n: usize, p: PageNumber) -> bool
     requires { ⌜ n ≤ 65535 ⌝ }
     ensures { λ r. ⌜ r ≡ isHead (fieldsOf w (now (pool .entry))) n (p .0) ⌝ }
 {
@@ -61,8 +61,8 @@ fn open_inside(pool: &[u8], w: u8, n: usize, c: u8, p: PageNumber) -> bool
 }
 
 // Whether p is a page of class c with a clear mark.
-fn is_open(pool: &[u8], w: u8, n: usize, c: u8, p: PageNumber) -> bool
-    requires { ⌜ (n ≡ pagesIn w (now pool)) × (n ≤ 65535) × (c ≤ 8) × (rule2 (fieldsOf w (now pool)) n ≡ true) ⌝ }
+pub fn is_open(pool: &[u8], w: u8, n: usize, c: u8, p: PageNumber) -> bool
+    requires { ⌜ (n ≡ pagesIn w (now pool)) × (n ≤ 65535) × (c ≤ 8) × (shape (fieldsOf w (now pool)) n ≡ true) ⌝ }
     ensures { λ r. ⌜ r ≡ openAt (fieldsOf w (now (pool .entry))) n c (p .0) ⌝ }
 {
     if (p.0 as usize) < n {
@@ -71,8 +71,8 @@ fn is_open(pool: &[u8], w: u8, n: usize, c: u8, p: PageNumber) -> bool
     false
 }
 
-fn on_list(pool: &[u8], w: u8, n: usize, list: u8, p: PageNumber) -> bool
-    requires { ⌜ (n ≡ pagesIn w (now pool)) × (n ≤ 65535) × (rule2 (fieldsOf w (now pool)) n ≡ true) × (list ≤ 9) ⌝ }
+pub fn on_list(pool: &[u8], w: u8, n: usize, list: u8, p: PageNumber) -> bool
+    requires { ⌜ (n ≡ pagesIn w (now pool)) × (n ≤ 65535) × (shape (fieldsOf w (now pool)) n ≡ true) × (list ≤ 9) ⌝ }
     ensures { λ r. ⌜ r ≡ belongs (fieldsOf w (now (pool .entry))) n list (p .0) ⌝ }
 {
     if list == 0 {
@@ -83,7 +83,7 @@ fn on_list(pool: &[u8], w: u8, n: usize, list: u8, p: PageNumber) -> bool
 
 // Follows next from `first` over `count` pages that belong on the list, after which it ends.
 pub fn follow(pool: &[u8], w: u8, n: usize, list: u8, count: usize, first: PageNumber) -> bool
-    requires { ⌜ (n ≡ pagesIn w (now pool)) × (n ≤ 65535) × (rule2 (fieldsOf w (now pool)) n ≡ true) × (list ≤ 9) ⌝ }
+    requires { ⌜ (n ≡ pagesIn w (now pool)) × (n ≤ 65535) × (shape (fieldsOf w (now pool)) n ≡ true) × (list ≤ 9) ⌝ }
     ensures { λ r. ⌜ r ≡ linked (belongs (fieldsOf w (now (pool .entry))) n list) (next (fieldsOf w (now (pool .entry)))) (prev (fieldsOf w (now (pool .entry)))) count noPage (first .0) ⌝ }
 {
     let mut before = PageNumber(NO_PAGE);
