@@ -2,16 +2,16 @@
  * Danumrikal: a slab allocator in a shared slice of bytes, for C99 and C++.
  *
  * A pool is a pointer and a length. `rt staticlib danumrikal` makes the archive
- * with the six calls, target/staticlib/libdanumrikal.a; it needs no other
+ * with the eight calls, target/staticlib/libdanumrikal.a; it needs no other
  * library.
  *
- * The six calls are proved: whatever the bytes hold and whatever is passed,
+ * The eight calls are proved: whatever the bytes hold and whatever is passed,
  * each returns, stays inside the given bytes and answers. A refused call changes
  * nothing, but that a chunk refused for room is counted in its class's asks and
- * failures. No call writes a block's bytes, but dnk_convert in its target. An
- * offset at which no live block begins is never freed: a block freed twice is
- * refused, as long as its place was not handed out again. The inline functions
- * are tested. docs/SPEC.md has all rules.
+ * failures. No call writes a block's bytes, but dnk_convert and dnk_mend in
+ * their target. An offset at which no live block begins is never freed: a block
+ * freed twice is refused, as long as its place was not handed out again. The
+ * inline functions are tested. docs/SPEC.md has all rules.
  *
  * What the host program keeps:
  *
@@ -19,7 +19,8 @@
  *   readable for dnk_validate, writable too for the others. Any alignment will
  *   do; see dnk_place for that of blocks.
  * - source and target of a conversion likewise, the source readable and the
- *   target writable too; they share no byte.
+ *   target writable too; they share no byte. So are damaged and target of
+ *   dnk_mend; damaged and mended of dnk_check_mended are only read.
  * - requests and answers of a batch are not null either, lie where a uint64_t
  *   may, and share no byte with the pool or each other.
  * - One call at a time, and nobody else writes any of the len bytes meanwhile,
@@ -28,7 +29,8 @@
  * - Between calls only blocks' own bytes are written, and the bytes behind the
  *   last page. Header, records and maps are the calls' alone; where somebody
  *   wrote them nevertheless, dnk_alloc, dnk_free and dnk_batch refuse as long
- *   as the records are unsound (DNK_NOT_SOUND).
+ *   as the records are unsound (DNK_NOT_SOUND). Where links or counts alone were
+ *   lost, dnk_mend makes a sound copy.
  * - A block belongs to whoever was answered its offset, until it is freed; its
  *   size is for the host to remember. Offsets hold in every process, wherever
  *   the pool is mapped there; pointers don't.
@@ -99,7 +101,9 @@ enum dnk_refusal {
     DNK_UNREADABLE = 8,
     DNK_NOTHING_ASKED = 10,
     DNK_ANSWERS_TOO_SHORT = 11,
-    DNK_WRONG_LENGTH = 12
+    DNK_WRONG_LENGTH = 12,
+    DNK_BEYOND_MENDING = 13,
+    DNK_OTHER_BLOCKS = 14
 };
 
 /*
@@ -179,6 +183,33 @@ dnk_answer dnk_batch(uint8_t *pool, size_t len, const dnk_request *requests, siz
  */
 dnk_answer dnk_convert(const uint8_t *source, size_t source_len, uint8_t *target, size_t target_len);
 
+/*
+ * Whether mended, a copy of a damaged pool that anybody made, is sound and holds
+ * what the damaged one shows: its live blocks, as the pages' kinds, classes, run
+ * lengths and maps tell them, and every byte of the pages and behind them. The
+ * value is 0, so the whole answer is 0 where the copy is accepted. Links, counts,
+ * asks, failures and peaks of the damaged one are not looked at; lists of the
+ * copy may have any order. Neither changes. Refused by the first of:
+ *   DNK_WRONG_LENGTH    lengths or first bytes, the editions, differ
+ *   DNK_BEYOND_MENDING  edition, shifts, page count, kinds, classes, run lengths
+ *                       or maps of the damaged one break rule 1, 2 or 5
+ *   DNK_NOT_SOUND       the records of the copy break a rule
+ *   DNK_OTHER_BLOCKS    other live blocks, or another byte in the pages or behind
+ */
+dnk_answer dnk_check_mended(const uint8_t *damaged, size_t damaged_len, const uint8_t *mended, size_t mended_len);
+
+/*
+ * Makes the target a sound copy of a damaged pool: lists in rising page order,
+ * counts made afresh, asks and failures kept, each peak the larger of what it was
+ * and the chunks in use. Blocks keep their offsets and bytes, and the bytes behind
+ * the last page are copied too; the damaged pool stays. The value is the page
+ * count. dnk_check_mended accepts every copy made so. Refused by the first of
+ * these, and then the target stays as it is:
+ *   DNK_WRONG_LENGTH    the target has another length
+ *   DNK_BEYOND_MENDING  as in dnk_check_mended
+ */
+dnk_answer dnk_mend(const uint8_t *damaged, size_t damaged_len, uint8_t *target, size_t target_len);
+
 /* The request to take a block of at least size bytes. */
 static inline dnk_request dnk_to_alloc(uint32_t size)
 {
@@ -219,6 +250,8 @@ static inline const char *dnk_refusal_name(enum dnk_refusal refusal)
     case DNK_NOTHING_ASKED: return "nothing asked";
     case DNK_ANSWERS_TOO_SHORT: return "answers too short";
     case DNK_WRONG_LENGTH: return "wrong length";
+    case DNK_BEYOND_MENDING: return "beyond mending";
+    case DNK_OTHER_BLOCKS: return "other blocks";
     }
     return "unknown";
 }
@@ -237,7 +270,8 @@ static inline size_t dnk_place(const uint8_t *pool, size_t len, uint32_t offset)
 
 /*
  * The most chunks of 8 << c bytes that were in use at once, since dnk_format or
- * dnk_convert, in a pool of edition 2; c is below DNK_CLASSES.
+ * dnk_convert, in a pool of edition 2; a mended one goes on from the peak that
+ * was found or the chunks then in use. c is below DNK_CLASSES.
  */
 static inline uint32_t dnk_peak(const uint8_t *pool, unsigned c)
 {

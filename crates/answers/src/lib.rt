@@ -5,7 +5,7 @@ ghost use Rattle.answers.specs.Outcome.{numberOf};
 // A byte by its distance from the first page's first byte.
 pub struct Offset(pub u32);
 
-// Of format and convert.
+// Of format, convert and mend.
 pub enum Formatted {
     // the page count
     Pages(u16),
@@ -23,6 +23,7 @@ pub enum Freed {
     Refused(Refusal),
 }
 
+// Of batch and check_mended.
 pub enum Batched {
     Done,
     Refused(Refusal),
@@ -51,8 +52,12 @@ pub enum Refusal {
     NothingAsked,
     // batch: fewer places for answers than requests
     AnswersTooShort,
-    // convert: a target whose length gives another page count
+    // convert: a target whose length gives another page count; check_mended and mend: another length, check_mended: another edition
     WrongLength,
+    // check_mended, mend: kinds, run lengths or maps of the damaged pool are lost
+    BeyondMending,
+    // check_mended: a sound pool with other blocks or bytes
+    OtherBlocks,
 }
 
 // The refusal's number (SPEC 5).
@@ -72,5 +77,7 @@ pub fn number(r: Refusal) -> u8
         Refusal::NothingAsked => 10,
         Refusal::AnswersTooShort => 11,
         Refusal::WrongLength => 12,
+        Refusal::BeyondMending => 13,
+        Refusal::OtherBlocks => 14,
     }
 }

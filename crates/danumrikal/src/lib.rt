@@ -9,6 +9,7 @@ ghost use Rattle.demands.specs.Editions.{widthOf, formatAsOutcome, formattedAs}
 ghost use Rattle.answer_words.specs.Word.{wordOf};
 ghost use Rattle.convert.specs.Convert.{convertOutcome, converted};
 ghost use Rattle.batch.specs.Batch.{batchOutcome, batchPool, batchAnswers};
+ghost use Rattle.mending.specs.Checked.{checkOutcome, mendOutcome, mended};
 
 // Makes a pool of an edition of a slice: the page count, or the refusal.
 #[no_mangle]
@@ -62,4 +63,21 @@ pub extern "C" fn dnk_convert(source: &[u8], target: &mut [u8]) -> u64
     ensures slice { λ _. ⌜ now (target .exit) ≡ converted (now (source .entry)) (now (target .entry)) ⌝ }
 {
     answer_words::formatted_word(convert::convert(source, target))
+}
+
+// Whether the second slice is accepted as a mended copy of the first: 0, or the refusal.
+#[no_mangle]
+pub extern "C" fn dnk_check_mended(damaged: &[u8], mended: &[u8]) -> u64
+    ensures { λ r. ⌜ r ≡ wordOf (checkOutcome (widthOf (now (damaged .entry))) (now (damaged .entry)) (now (mended .entry))) ⌝ }
+{
+    answer_words::batched_word(pool::check_mended(damaged, mended))
+}
+
+// Writes a mended copy of a damaged pool into a second slice: the page count, or the refusal.
+#[no_mangle]
+pub extern "C" fn dnk_mend(damaged: &[u8], target: &mut [u8]) -> u64
+    ensures answer { λ r. ⌜ r ≡ wordOf (mendOutcome (widthOf (now (damaged .entry))) (now (damaged .entry)) (now (target .entry))) ⌝ }
+    ensures slice { λ _. ⌜ now (target .exit) ≡ mended (widthOf (now (damaged .entry))) (now (damaged .entry)) (now (target .entry)) ⌝ }
+{
+    answer_words::formatted_word(pool::mend(damaged, target))
 }

@@ -25,7 +25,7 @@ use Rattle.rules.specs.Bytes.{pagesIn, brokenRule, read}
 use Rattle.drawing.proofs.Laws.{claims as laws-of}
 use Rattle.demands.specs.Calls.{outcome, answered, after}
 use Rattle.demands.specs.Shown.{shownBy}
-use Rattle.demands.specs.Demands.{numberIn, Turn, fed, Allowed, played, book, Rewritten, Apart, Faithful, Demand3}
+use Rattle.demands.specs.Demands.{numberIn, Turn, fed, Allowed, played, book, Rewritten, Apart, Faithful, Demand3, Demand3From}
 use Rattle.demands.proofs.Calls.{no-zero, verdict-number, view-is, sound-answer, after-sound, after-read, demand1}
 
 -- ---- the live set, fed by outcomes
@@ -130,6 +130,11 @@ module _ (w : ℕ) (wide : 2 ≤ w) (narrow : w ≤ 255) (P : ℕ) where
   turns [] s L K A u R = faithful (noisy K R)
   turns (t ∷ ts) s L K A u R =
       turns ts (after w (t .bytes) (t .call)) (fed L (t .call) (answered w (t .bytes) (t .call))) (called (noisy K (A .0)) (t .call)) (A .1) u R
+
+pub demand3-from : (w : ℕ) → 2 ≤ w → w ≤ 255 → (s : List ℕ) → Bytes s → Demand3From w s
+demand3-from w wide narrow s C sound D live B u R =
+    subst (λ (L : List Block). Faithful w (pagesIn w s) L u) (R .live)
+    (turns w wide narrow (pagesIn w s) (R .turns) s D (record { bytes = C; sound = sound; size = refl; live = live }) (R .allowed) u (R .since))
 
 pub demand3 : (w : ℕ) → 2 ≤ w → w ≤ 255 → (s : List ℕ) → Bytes s → Demand3 w s
 demand3 w wide narrow s C B u R =

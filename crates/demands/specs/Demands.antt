@@ -14,7 +14,7 @@ use Rattle.answers.specs.Outcome.{Outcome, granted, refused}
 use Rattle.answers.specs.declared.Refusal.the-variants.{NotSound, NothingAsked}
 use Rattle.model.specs.Classes.{chunkOf, pages, needOf}
 use Rattle.model.specs.Calls.{Call, Alloc, Free, tallied, step}
-use Rattle.model.specs.Live.{Block, offset, extent, Disjoint, Live, BlocksPlaced, blockFor, elsewhere}
+use Rattle.model.specs.Live.{Block, offset, extent, Disjoint, Live, LiveSet, BlocksPlaced, blockFor, elsewhere}
 use Rattle.model.specs.View.{vacant, View}
 use Rattle.model.specs.Expected.{expected}
 use Rattle.model.specs.Ruling.{Verdict, granted as allowed, refused as denied, clearIn, pageIn, runIn, ruling}
@@ -113,6 +113,13 @@ pub record Reached (w : ℕ) (s : List ℕ) (B : List Block) (u : List ℕ) : Ty
   pub live : book w [] turns ≡ B
   pub since : Rewritten w (played w (formatted w s) turns) u
 
+-- u is reached from s, whose live blocks are listed in D, with the live set B: by a list of turns; callers may have written since
+pub record Onward (w : ℕ) (s : List ℕ) (D B : List Block) (u : List ℕ) : Type 0 where
+  pub turns : List Turn
+  pub allowed : Allowed w s turns
+  pub live : book w D turns ≡ B
+  pub since : Rewritten w (played w s turns) u
+
 -- a granted alloc overlaps no block of the live set
 unfoldable pub Apart : List Block → Call → Outcome → Type 0
 Apart B (Alloc n) o = o .number ≡ 0 → (e : Block) → Mem e B → Disjoint (blockFor (needOf n) (o .value)) e
@@ -135,6 +142,11 @@ pub record Faithful (w P : ℕ) (B : List Block) (s : List ℕ) : Type 0 where
 -- after any list of turns from what format leaves of any slice that it accepts
 abbrev pub Demand3 : (w : ℕ) (s : List ℕ) → Type 0
 Demand3 w s = (B : List Block) (u : List ℕ) → Reached w s B u → Faithful w (pagesIn w s) B u
+
+-- the same from any sound records, with their live blocks
+abbrev pub Demand3From : (w : ℕ) (s : List ℕ) → Type 0
+Demand3From w s = brokenRule w s ≡ 0 → (D : List Block) → LiveSet D (read w s .page) → (B : List Block) (u : List ℕ) → Onward w s D B u →
+    Faithful w (pagesIn w s) B u
 
 -- ---- what follows from demand 3, with live blocks from calls and answers alone
 
@@ -190,6 +202,7 @@ pub record Demands (w : ℕ) (s : List ℕ) : Type 0 where
   pub demand1 : Demand1 w s
   pub demand2 : (sound : brokenRule w s ≡ 0) → Demand2 w s sound
   pub demand3 : Demand3 w s
+  pub demand3-from : Demand3From w s
   pub book-corollaries : BookCorollaries w s
   pub corollaries : brokenRule w s ≡ 0 → Corollaries w s
 

@@ -15,6 +15,7 @@ ghost use Rattle.rules.specs.Bytes.{brokenRule};
 ghost use Rattle.demands.specs.Calls.{answered, after};
 ghost use Rattle.demands.specs.Editions.{widthOf, formatAsOutcome, formattedAs};
 ghost use Rattle.batch.specs.Batch.{batchOutcome, batchPool, batchAnswers};
+ghost use Rattle.mending.specs.Checked.{checkOutcome, mendOutcome, mended};
 
 // Words of a class record.
 const EDITION_1: u8 = 2;
@@ -87,5 +88,28 @@ pub fn batch(pool: &mut [u8], requests: &[u64], answers: &mut [u64]) -> Batched
         batch::batch(pool, EDITION_2, requests, answers)
     } else {
         batch::batch(pool, EDITION_1, requests, answers)
+    }
+}
+
+// Whether the second slice is accepted as a mended copy of the first, whoever mended it (SPEC 14).
+pub fn check_mended(damaged: &[u8], mended: &[u8]) -> Batched
+    ensures { λ r. ⌜ ofBatch r ≡ checkOutcome (widthOf (now (damaged .entry))) (now (damaged .entry)) (now (mended .entry)) ⌝ }
+{
+    if is_second(damaged) {
+        check_mended::check_mended(damaged, mended, EDITION_2)
+    } else {
+        check_mended::check_mended(damaged, mended, EDITION_1)
+    }
+}
+
+// Writes a mended copy of a damaged pool into a second slice: the page count, or the refusal (SPEC 14).
+pub fn mend(damaged: &[u8], target: &mut [u8]) -> Formatted
+    ensures answer { λ r. ⌜ ofFormat r ≡ mendOutcome (widthOf (now (damaged .entry))) (now (damaged .entry)) (now (target .entry)) ⌝ }
+    ensures slice { λ _. ⌜ now (target .exit) ≡ mended (widthOf (now (damaged .entry))) (now (damaged .entry)) (now (target .entry)) ⌝ }
+{
+    if is_second(damaged) {
+        mend::mend(damaged, target, EDITION_2)
+    } else {
+        mend::mend(damaged, target, EDITION_1)
     }
 }

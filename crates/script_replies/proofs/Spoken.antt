@@ -8,7 +8,7 @@ use lib.ListN.{length}
 use Rattle.base.specs.Tests.{pick}
 use Rattle.answers.specs.Outcome.{Outcome, numberOf, granted, refused}
 use Rattle.answers.specs.declared.Refusal.{Refusal}
-use Rattle.answers.specs.declared.Refusal.the-variants.{TooShort, TooLong, NotSound, NoRoom, Outside, NotTaken, NotAStart, Unreadable, ScriptTooLong, NothingAsked, AnswersTooShort, WrongLength}
+use Rattle.answers.specs.declared.Refusal.the-variants.{TooShort, TooLong, NotSound, NoRoom, Outside, NotTaken, NotAStart, Unreadable, ScriptTooLong, NothingAsked, AnswersTooShort, WrongLength, BeyondMending, OtherBlocks}
 use Rattle.printing.specs.Text.{line, written, Prints}
 use Rattle.script_replies.specs.Replies.{noWord, refusalLine, outcomeLine}
 
@@ -25,6 +25,8 @@ refusal-counts ScriptTooLong = refl
 refusal-counts NothingAsked = refl
 refusal-counts AnswersTooShort = refl
 refusal-counts WrongLength = refl
+refusal-counts BeyondMending = refl
+refusal-counts OtherBlocks = refl
 
 module _ (s u : List ℕ) (n m : ℕ) where
   pub prints-refusal : (r : Refusal) (v : ℕ) → v ≡ numberOf r → (m ≡ n + length (line noWord v)) × (u ≡ written s n (line noWord v)) × (m ≤ n + 3 + 11) →

@@ -18,6 +18,13 @@ extern "C" {
     ) -> u64;
     fn dnk_convert(source: *const u8, source_len: usize, target: *mut u8, target_len: usize)
         -> u64;
+    fn dnk_check_mended(
+        damaged: *const u8,
+        damaged_len: usize,
+        mended: *const u8,
+        mended_len: usize,
+    ) -> u64;
+    fn dnk_mend(damaged: *const u8, damaged_len: usize, target: *mut u8, target_len: usize) -> u64;
 }
 
 pub fn format(pool: &mut [u8], edition: u8) -> u64 {
@@ -63,6 +70,31 @@ pub fn convert(source: &[u8], target: &mut [u8]) -> u64 {
         dnk_convert(
             source.as_ptr(),
             source.len(),
+            target.as_mut_ptr(),
+            target.len(),
+        )
+    }
+}
+
+pub fn check_mended(damaged: &[u8], mended: &[u8]) -> u64 {
+    // SAFETY: pointers and lengths are those of slices that are lent to be read.
+    unsafe {
+        dnk_check_mended(
+            damaged.as_ptr(),
+            damaged.len(),
+            mended.as_ptr(),
+            mended.len(),
+        )
+    }
+}
+
+pub fn mend(damaged: &[u8], target: &mut [u8]) -> u64 {
+    // SAFETY: pointers and lengths are those of slices that are lent for the
+    // call and share no byte.
+    unsafe {
+        dnk_mend(
+            damaged.as_ptr(),
+            damaged.len(),
             target.as_mut_ptr(),
             target.len(),
         )

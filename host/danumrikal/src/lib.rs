@@ -30,7 +30,8 @@
 //! are lent, which block is whose and how long, and that between calls nobody
 //! writes header, records and maps. Where somebody does, [`Pool::alloc`],
 //! [`Pool::free`] and [`Pool::batch`] refuse with [`Refusal::NotSound`] as long
-//! as the records are unsound.
+//! as the records are unsound. Where links or counts were lost, [`mend`] makes a
+//! sound copy, and [`check_mended`] tries one, whoever made it.
 
 #![deny(missing_docs)]
 
@@ -38,6 +39,7 @@ mod batch;
 mod convert;
 mod edition;
 mod ffi;
+mod mend;
 mod pool;
 mod refusal;
 mod rule;
@@ -45,6 +47,7 @@ mod rule;
 pub use batch::{Answer, Request};
 pub use convert::convert;
 pub use edition::Edition;
+pub use mend::{check_mended, mend};
 pub use pool::{check, peaks, Offset, Pool, CLASSES, MOST_PAGES, PAGE};
 pub use refusal::Refusal;
 pub use rule::Rule;

@@ -17,7 +17,8 @@ pub enum Refusal {
     /// Format: the slice holds more than 4,096 pages.
     TooLong = 2,
     /// Alloc, free or batch: the records break a rule. Convert: the source is no
-    /// sound pool of edition 1.
+    /// sound pool of edition 1. Check of a mended pool: the copy's records break
+    /// a rule.
     NotSound = 3,
     /// Alloc: no free chunk and no free page, or no run long enough.
     NoRoom = 4,
@@ -33,11 +34,18 @@ pub enum Refusal {
     NothingAsked = 10,
     /// Batch: fewer answers than requests.
     AnswersTooShort = 11,
-    /// Convert: the target does not hold as many pages.
+    /// Convert: the target does not hold as many pages. Mend: it has another
+    /// length. Check of a mended pool: lengths or edition bytes differ.
     WrongLength = 12,
+    /// Mend, and check of a mended pool: what tells the live blocks of the
+    /// damaged one is damaged too.
+    BeyondMending = 13,
+    /// Check of a mended pool: the copy has other live blocks, or other bytes in
+    /// the pages or behind them.
+    OtherBlocks = 14,
 }
 
-const ALL: [Refusal; 11] = [
+const ALL: [Refusal; 13] = [
     Refusal::TooShort,
     Refusal::TooLong,
     Refusal::NotSound,
@@ -49,6 +57,8 @@ const ALL: [Refusal; 11] = [
     Refusal::NothingAsked,
     Refusal::AnswersTooShort,
     Refusal::WrongLength,
+    Refusal::BeyondMending,
+    Refusal::OtherBlocks,
 ];
 
 impl Refusal {
@@ -84,6 +94,8 @@ impl Refusal {
             Refusal::NothingAsked => "nothing asked",
             Refusal::AnswersTooShort => "answers too short",
             Refusal::WrongLength => "wrong length",
+            Refusal::BeyondMending => "beyond mending",
+            Refusal::OtherBlocks => "other blocks",
         }
     }
 }

@@ -4,11 +4,12 @@
 //!
 //! The seeds are fixed. `DANUMRIKAL_TIMES=10` makes ten times as many.
 
-use danumrikal::{check, convert, Offset, Pool, Refusal};
-use reference::{
-    alloc_sound, broken_rule, format, free_sound, live_blocks, peaks, shown, Call, LiveSet, Peaks,
-};
-use support::{offset, Edition, Habit, Rng, EDITIONS, ONE, PER_PAGE, TWO};
+mod common;
+
+use common::{goes_on, pool, times};
+use danumrikal::{check, convert, Refusal};
+use reference::{broken_rule, format, live_blocks, peaks, shown};
+use support::{Rng, EDITIONS, ONE, PER_PAGE, TWO};
 
 /// What a conversion is made of.
 #[derive(Clone)]
@@ -36,44 +37,6 @@ fn second(source: &[u8], target: &mut [u8]) -> Result<u32, u8> {
     reference::convert(source, target).map_err(|refusal| refusal.number())
 }
 
-/// A sound pool after some calls, its live blocks and its page count.
-fn pool(rng: &mut Rng, edition: Edition, most: u64) -> (Vec<u8>, LiveSet, usize) {
-    let pages = 1 + rng.below(most) as usize;
-    let tail = rng.below(PER_PAGE as u64) as usize;
-    // as many numbers drawn in each edition
-    let mut pool = Rng::new(rng.word()).bytes(edition.length(pages) + tail);
-    format(&mut pool, edition.number).expect("a length that holds pages");
-    let mut live = LiveSet::new(pages as u32);
-    let habit = Habit::any(rng);
-    for _ in 0..rng.below(200) {
-        let near = nearest(rng, pages, &live);
-        match call(rng, habit, pages, near) {
-            Call::Alloc(size) => live.record_alloc(size, alloc_sound(&mut pool, size)),
-            Call::Free(offset) => live.record_free(offset, free_sound(&mut pool, offset)),
-        }
-        .expect("an answer that the live blocks allow");
-    }
-    (pool, live, pages)
-}
-
-/// The live block nearest to some place.
-fn nearest(rng: &mut Rng, pages: usize, live: &LiveSet) -> Option<u32> {
-    let place = rng.below(pages as u64 * 4_096) as u32;
-    let blocks = live.blocks();
-    let nearest = blocks.range(place..).next().or(blocks.iter().next());
-    nearest.map(|(offset, _)| *offset)
-}
-
-fn call(rng: &mut Rng, habit: Habit, pages: usize, near: Option<u32>) -> Call {
-    if rng.below(16) < habit.allocs {
-        return Call::Alloc(habit.size(rng, pages));
-    }
-    match near.filter(|_| !rng.once_in(4)) {
-        Some(live) => Call::Free(live),
-        None => Call::Free(offset(rng, pages, near)),
-    }
-}
-
 /// A source that is sound, damaged or of edition 2, and a target of a length that
 /// often suits.
 fn case(seed: u64) -> Case {
@@ -93,13 +56,6 @@ fn case(seed: u64) -> Case {
     };
     let target = rng.bytes(len);
     Case { source, target }
-}
-
-fn times() -> u64 {
-    match std::env::var("DANUMRIKAL_TIMES") {
-        Ok(times) => times.parse().expect("DANUMRIKAL_TIMES is a number"),
-        Err(_) => 1,
-    }
 }
 
 #[test]
@@ -186,43 +142,11 @@ fn sources_that_are_refused() {
 fn the_history_starts_at_the_conversion() {
     for seed in 0..200 * times() {
         let mut rng = Rng::new(1_000_000 + seed);
-        let (source, mut live, pages) = pool(&mut rng, ONE, 6);
+        let (source, live, pages) = pool(&mut rng, ONE, 6);
         let mut bytes = rng.bytes(TWO.length(pages) + 9);
         assert_eq!(proved(&source, &mut bytes), Ok(pages as u32));
-        let mut history = Peaks::new(live.used());
-        assert_eq!(peaks(&bytes), Some(history.by_class()));
-        let habit = Habit::any(&mut rng);
-        for _ in 0..200 {
-            let near = nearest(&mut rng, pages, &live);
-            let call = call(&mut rng, habit, pages, near);
-            let ruling = live.ruling(call).err().map(|refusal| refusal.number());
-            let mut pool = Pool::new(&mut bytes);
-            let (answer, entered) = match call {
-                Call::Alloc(size) => {
-                    let answer = pool.alloc(size).map(|offset| offset.0);
-                    let granted = answer
-                        .ok()
-                        .map(|offset| live.record_alloc(size, Ok(offset)));
-                    (answer, granted)
-                }
-                Call::Free(offset) => {
-                    let answer = pool.free(Offset(offset));
-                    let granted = answer.ok().map(|bytes| live.record_free(offset, Ok(bytes)));
-                    (answer, granted)
-                }
-            };
-            let what = format!("seed {seed}, {call:?}");
-            assert_eq!(
-                answer.err().map(|refusal| refusal.number()),
-                ruling,
-                "{what}"
-            );
-            assert_eq!(entered.unwrap_or(Ok(())), Ok(()), "{what}");
-            history.note(&live);
-            assert_eq!(check(&bytes), Ok(()), "{what}");
-            assert_eq!(shown(&bytes), Some(live.expected()), "{what}");
-            assert_eq!(peaks(&bytes), Some(history.by_class()), "{what}");
-        }
+        assert_eq!(peaks(&bytes), Some(live.used()));
+        goes_on(&mut rng, &mut bytes, live, &format!("seed {seed}"));
     }
 }
 

@@ -41,7 +41,9 @@ static void names(void)
     EXPECT(has_name(10, "nothing asked"));
     EXPECT(has_name(11, "answers too short"));
     EXPECT(has_name(12, "wrong length"));
-    EXPECT(has_name(13, "unknown"));
+    EXPECT(has_name(13, "beyond mending"));
+    EXPECT(has_name(14, "other blocks"));
+    EXPECT(has_name(15, "unknown"));
 }
 
 static void layouts(void)
@@ -171,6 +173,44 @@ static void peaks(void)
     EXPECT(target[DNK_POOL_LENGTH(DNK_EDITION_2, 12)] == 7); /* the tail */
 }
 
+/* Links and counts lost come back; the blocks, their bytes and the tail are what they were. */
+static void mended(uint8_t edition)
+{
+    const size_t len = DNK_POOL_LENGTH(edition, 12) + 5;
+    memset(pool, 9, len);
+    EXPECT(dnk_format(pool, len, edition) == 12);
+    const uint32_t block = dnk_value_of(dnk_alloc(pool, len, 30));
+    EXPECT(dnk_value_of(dnk_alloc(pool, len, 5000)) == DNK_PAGE);
+    memcpy(pool + dnk_place(pool, len, block), "Vega", 5);
+    EXPECT(dnk_check_mended(pool, len, pool, len) == 0);
+    memset(pool + 4, 0xff, 4); /* free pages, and the first free run */
+    EXPECT(dnk_validate(pool, len) == 3);
+    EXPECT(dnk_check_mended(pool, len, pool, len) == refused(DNK_NOT_SOUND));
+
+    memset(target, 7, sizeof target);
+    EXPECT(dnk_mend(pool, len, target, len - 1) == refused(DNK_WRONG_LENGTH));
+    EXPECT(dnk_mend(pool, len, target, len + 1) == refused(DNK_WRONG_LENGTH));
+    EXPECT(dnk_check_mended(pool, len, target, len - 1) == refused(DNK_WRONG_LENGTH));
+    EXPECT(dnk_check_mended(pool, len, target, len) == refused(DNK_WRONG_LENGTH)); /* no edition */
+    EXPECT(target[0] == 7 && target[len - 1] == 7);
+    EXPECT(dnk_mend(pool, len, target, len) == 12);
+    EXPECT(target[len - 1] == 9 && target[len] == 7); /* the tail, and what is behind the target */
+    EXPECT(dnk_validate(target, len) == 0);
+    EXPECT(dnk_check_mended(pool, len, target, len) == 0);
+    EXPECT(edition == DNK_EDITION_1 || dnk_peak(target, 2) == 1);
+    target[len - 1] = 8;
+    EXPECT(dnk_check_mended(pool, len, target, len) == refused(DNK_OTHER_BLOCKS));
+    target[len - 1] = 9;
+    EXPECT(strcmp((const char *)target + dnk_place(target, len, block), "Vega") == 0);
+    EXPECT(dnk_free(target, len, block) == 32);
+    EXPECT(dnk_check_mended(pool, len, target, len) == refused(DNK_OTHER_BLOCKS));
+
+    pool[3] = 11; /* the page count */
+    EXPECT(dnk_mend(pool, len, target, len) == refused(DNK_BEYOND_MENDING));
+    EXPECT(dnk_check_mended(pool, len, target, len) == refused(DNK_BEYOND_MENDING));
+    EXPECT(dnk_check_mended(pool, 0, target, 0) == refused(DNK_BEYOND_MENDING));
+}
+
 int main(void)
 {
     names();
@@ -180,6 +220,7 @@ int main(void)
         single_calls(edition);
         batches(edition);
         alignment(edition);
+        mended(edition);
     }
     peaks();
     return failed ? EXIT_FAILURE : EXIT_SUCCESS;

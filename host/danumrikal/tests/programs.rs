@@ -1,11 +1,12 @@
 //! The examples in C and in Rust, and the C header, as a newcomer would build
-//! and run them. The README's example in Rust runs with the documentation's.
+//! and run them. The README's examples in Rust run with the documentation's.
 
 use std::fs;
 use std::path::{Path, PathBuf};
 use std::process::Command;
 
 const NIGHT: &str = include_str!("../../../examples/night.stdout");
+const POWER_LOSS: &str = include_str!("../../../examples/power_loss.stdout");
 const README: &str = include_str!("../../../README.md");
 
 /// As strictly as compilers can.
@@ -66,6 +67,12 @@ fn the_night_in_rust() {
     }
     cargo.current_dir(env!("CARGO_MANIFEST_DIR"));
     assert_eq!(run(&mut cargo), NIGHT);
+}
+
+#[test]
+fn the_power_loss_in_c() {
+    let source = root().join("examples/power_loss.c");
+    assert_eq!(build_and_run(&C, &source, "power_loss"), POWER_LOSS);
 }
 
 #[test]

@@ -1,8 +1,8 @@
 //! A broken example for each rule, and the number that it earns, in both
-//! editions: the table of `docs/RULES.md`, which this test holds against what the
-//! pool answers.
+//! editions, and whether it can be mended: the table of `docs/RULES.md`, which
+//! this test holds against what the pool answers.
 
-use danumrikal::{check, Offset, Pool, Refusal};
+use danumrikal::{check, check_mended, mend, Offset, Pool, Refusal};
 use support::{Edition, Rng, EDITIONS, TWO};
 
 const PAGES: usize = 8;
@@ -298,6 +298,34 @@ fn first_broken(name: &str, mut pool: Vec<u8>) -> u8 {
     rule
 }
 
+/// What mending answers: `yes`, and then the copy is accepted and shows the live
+/// blocks, or the refusal's number.
+fn mended(name: &str, pool: &[u8]) -> String {
+    let mut copy = vec![0; pool.len()];
+    let answer = mend(pool, &mut copy);
+    let second = reference::mend(pool, &mut vec![0; pool.len()]);
+    let number = |refusal: reference::Refusal| refusal.number();
+    assert_eq!(
+        answer.map_err(Refusal::number),
+        second.map_err(number),
+        "{name}"
+    );
+    if let Err(refusal) = answer {
+        assert_eq!(check_mended(pool, pool), Err(refusal), "{name}");
+        return refusal.number().to_string();
+    }
+    assert_eq!(check_mended(pool, &copy), Ok(()), "{name}");
+    let accepted = check_mended(pool, pool) == Ok(());
+    assert_eq!(accepted, check(pool) == Ok(()), "{name}");
+    "yes".into()
+}
+
+/// The first broken rule, and whether the pool can be mended, as a line ends.
+fn told(name: &str, pool: Vec<u8>) -> String {
+    let mended = mended(name, &pool);
+    format!("{} | {mended} |\n", first_broken(name, pool))
+}
+
 fn damaged(edition: Edition, damage: Damage) -> Vec<u8> {
     let mut pool = sound(edition);
     damage(&mut pool);
@@ -305,15 +333,15 @@ fn damaged(edition: Edition, damage: Damage) -> Vec<u8> {
 }
 
 fn table() -> String {
-    let mut text = String::from("| Damage | First broken rule |\n|---|---|\n");
+    let mut text = String::from("| Damage | First broken rule | Mended |\n|---|---|---|\n");
     for (name, damage) in CASES {
-        let [rule, other] = EDITIONS.map(|edition| first_broken(name, damaged(edition, *damage)));
-        assert_eq!(rule, other, "{name}: the editions differ");
-        text.push_str(&format!("| {name} | {rule} |\n"));
+        let [line, other] = EDITIONS.map(|edition| told(name, damaged(edition, *damage)));
+        assert_eq!(line, other, "{name}: the editions differ");
+        text.push_str(&format!("| {name} | {line}"));
     }
     for (name, damage) in PEAK_CASES {
-        let rule = first_broken(name, damaged(TWO, *damage));
-        text.push_str(&format!("| edition 2: {name} | {rule} |\n"));
+        let line = told(name, damaged(TWO, *damage));
+        text.push_str(&format!("| edition 2: {name} | {line}"));
     }
     text
 }

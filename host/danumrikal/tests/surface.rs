@@ -20,6 +20,8 @@ fn refusals_have_the_second_programs_numbers_and_names() {
             reference::Refusal::AnswersTooShort,
         ),
         (Refusal::WrongLength, reference::Refusal::WrongLength),
+        (Refusal::BeyondMending, reference::Refusal::BeyondMending),
+        (Refusal::OtherBlocks, reference::Refusal::OtherBlocks),
     ];
     for (ours, theirs) in refusals {
         assert_eq!(ours.number(), theirs.number());

@@ -441,6 +441,16 @@ impl PageRecord {
         }
     }
 
+    /// The same record with links and zero bits as in a page on no list.
+    pub fn unlinked(self) -> PageRecord {
+        PageRecord {
+            next: PageNo::NONE,
+            previous: PageNo::NONE,
+            zeros: 0,
+            ..self
+        }
+    }
+
     /// Reads the record of a page.
     pub fn read(bytes: &[u8], layout: Layout, page: PageNo) -> PageRecord {
         let at = layout.page_record_at(page);

@@ -7,6 +7,8 @@
 //! - [`format()`], [`validate()`], [`alloc()`], [`free()`] and [`batch()`] are the
 //!   calls, on pools of both editions; [`convert()`] leads from the first to the
 //!   second.
+//! - [`mend()`] makes a sound copy of a pool whose links or counts were lost, and
+//!   [`check_mended()`] tries one that anybody made.
 //! - [`view`] predicts, from calls and answers alone, what a pool must show.
 //! - [`script`] serves a text of takes and gives.
 //! - [`mod@report`] prints what the image of a pool holds.
@@ -18,6 +20,7 @@ pub mod batch;
 pub mod class;
 pub mod convert;
 pub mod layout;
+pub mod mend;
 pub mod pool;
 pub mod refusal;
 pub mod report;
@@ -29,6 +32,7 @@ pub use batch::batch;
 pub use class::{need, Class, Need, CLASSES};
 pub use convert::convert;
 pub use layout::{Edition, Layout};
+pub use mend::{check_mended, mend};
 pub use pool::{alloc, alloc_sound, format, free, free_sound};
 pub use refusal::Refusal;
 pub use report::report;

@@ -100,9 +100,9 @@ fn is_unused(bytes: &[u8], bitmap: usize, class: Class) -> bool {
 }
 
 /// A pool whose edition and length have been seen to hold pages.
-struct Pool<'a> {
-    bytes: &'a mut [u8],
-    layout: Layout,
+pub(crate) struct Pool<'a> {
+    pub bytes: &'a mut [u8],
+    pub layout: Layout,
 }
 
 impl Pool<'_> {
@@ -117,15 +117,15 @@ impl Pool<'_> {
         ClassRecord::read(self.bytes, self.layout, class)
     }
 
-    fn set_class(&mut self, class: Class, record: ClassRecord) {
+    pub fn set_class(&mut self, class: Class, record: ClassRecord) {
         record.write(self.bytes, self.layout, class);
     }
 
-    fn page(&self, page: PageNo) -> PageRecord {
+    pub fn page(&self, page: PageNo) -> PageRecord {
         PageRecord::read(self.bytes, self.layout, page)
     }
 
-    fn set_page(&mut self, page: PageNo, record: PageRecord) {
+    pub fn set_page(&mut self, page: PageNo, record: PageRecord) {
         record.write(self.bytes, self.layout, page);
     }
 
@@ -315,7 +315,7 @@ impl Pool<'_> {
 
     /// Writes a free run's records and puts it at the head of the list. The
     /// pages after its first already stand as inside a free run.
-    fn push_run(&mut self, header: &mut Header, first: PageNo, length: u32) {
+    pub fn push_run(&mut self, header: &mut Header, first: PageNo, length: u32) {
         self.write_run(first, length, PageNo::NONE, PageNo::NONE);
         self.link_first(&mut header.first, first);
     }
@@ -336,7 +336,7 @@ impl Pool<'_> {
     }
 
     /// Puts a page at the head of a list.
-    fn link_first(&mut self, head: &mut PageNo, page: PageNo) {
+    pub fn link_first(&mut self, head: &mut PageNo, page: PageNo) {
         if *head != PageNo::NONE {
             self.set_previous(*head, page);
         }

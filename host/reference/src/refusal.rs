@@ -1,4 +1,4 @@
-//! The twelve ways a call or a script line is refused.
+//! The fourteen ways a call or a script line is refused.
 
 use std::fmt;
 
@@ -12,6 +12,7 @@ pub enum Refusal {
     TooLong,
     /// Alloc, free or batch: the pool's records are not sound. Convert: the
     /// source is no sound pool of edition 1. Format: there is no such edition.
+    /// Check of a mended pool: the copy is not sound.
     NotSound,
     /// Alloc: no free chunk and no free page, or no run long enough.
     NoRoom,
@@ -29,8 +30,15 @@ pub enum Refusal {
     NothingAsked,
     /// Batch: the list for answers is shorter than the requests.
     AnswersTooShort,
-    /// Convert: the target's length does not hold as many pages.
+    /// Convert: the target's length does not hold as many pages. Mend: it is
+    /// another. Check of a mended pool: lengths or edition bytes are unequal.
     WrongLength,
+    /// Mend, and check of a mended pool: header constants, page count, kinds,
+    /// classes, run lengths and maps of the damaged one show no pool.
+    BeyondMending,
+    /// Check of a mended pool: the copy is sound, but has other live blocks,
+    /// page bytes or tail.
+    OtherBlocks,
 }
 
 impl Refusal {
@@ -49,6 +57,8 @@ impl Refusal {
             Refusal::NothingAsked => 10,
             Refusal::AnswersTooShort => 11,
             Refusal::WrongLength => 12,
+            Refusal::BeyondMending => 13,
+            Refusal::OtherBlocks => 14,
         }
     }
 }
@@ -68,6 +78,8 @@ impl fmt::Display for Refusal {
             Refusal::NothingAsked => "nothing asked",
             Refusal::AnswersTooShort => "answers too short",
             Refusal::WrongLength => "wrong length",
+            Refusal::BeyondMending => "beyond mending",
+            Refusal::OtherBlocks => "other blocks",
         })
     }
 }

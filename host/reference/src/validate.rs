@@ -18,14 +18,11 @@ pub fn validate(bytes: &[u8]) -> bool {
 /// The number of the first rule of soundness, 1 to 6, that the slice breaks,
 /// or 0 when it is sound.
 pub fn broken_rule(bytes: &[u8]) -> u8 {
-    let Ok(layout) = Layout::of(bytes) else {
+    let Some((layout, header)) = read_header(bytes) else {
         return 1;
     };
-    let header = Header::read(bytes);
-    if header != Header::new(layout, header.free, header.first) {
-        return 1;
-    }
-    let Some(census) = Census::take(bytes, layout) else {
+    let census = Census::take(bytes, layout);
+    let Some(census) = census.filter(|census| !census.stray_link) else {
         return 2;
     };
     if !free_list_is_sound(bytes, layout, header.first, census.free_runs) {
@@ -60,6 +57,14 @@ pub fn broken_rule(bytes: &[u8]) -> u8 {
         }
     }
     0
+}
+
+/// Layout and header of a slice that obeys rule 1.
+pub(crate) fn read_header(bytes: &[u8]) -> Option<(Layout, Header)> {
+    let layout = Layout::of(bytes).ok()?;
+    let header = Header::read(bytes);
+    check(header == Header::new(layout, header.free, header.first))?;
+    Some((layout, header))
 }
 
 /// Whether the list from `first` holds `length` pages, all of which `belongs`
@@ -113,27 +118,31 @@ fn class_list_is_sound(
 
 /// What the walk over the pages of one class counted.
 #[derive(Clone, Copy, Default)]
-struct ClassCount {
-    pages: u32,
+pub(crate) struct ClassCount {
+    pub pages: u32,
     /// Pages with a free chunk.
     open: u32,
     /// Chunks in callers' hands.
-    used: u32,
+    pub used: u32,
 }
 
-/// What one walk over the page records found, in pages that obey rule 2.
+/// What one walk over the page records found, in pages that obey rule 2 but for
+/// links and zero bits.
 #[derive(Default)]
-struct Census {
+pub(crate) struct Census {
     free_runs: u32,
-    free_pages: u32,
-    classes: [ClassCount; CLASSES],
+    pub free_pages: u32,
+    pub classes: [ClassCount; CLASSES],
+    /// A link or a zero bit breaks rule 2.
+    stray_link: bool,
     full_page_linked: bool,
-    unused_class_page: bool,
+    pub unused_class_page: bool,
 }
 
 impl Census {
-    /// Walks the pages run by run; `None` when rule 2 is broken.
-    fn take(bytes: &[u8], layout: Layout) -> Option<Census> {
+    /// Walks the pages run by run; `None` when rule 2 is broken elsewhere than
+    /// in links and zero bits.
+    pub fn take(bytes: &[u8], layout: Layout) -> Option<Census> {
         let mut census = Census::default();
         let mut page = PageNo(0);
         let mut after_free_run = false;
@@ -143,7 +152,7 @@ impl Census {
                 FREE_FIRST if !after_free_run => {
                     census.add_free_run(bytes, layout, page, &record)?
                 }
-                TAKEN_FIRST => taken_run(bytes, layout, page, &record)?,
+                TAKEN_FIRST => census.add_taken_run(bytes, layout, page, &record)?,
                 CLASS_PAGE => census.add_class_page(bytes, layout, page, &record)?,
                 // Inside a run that has no first page, a free run that touches
                 // another, or no kind at all.
@@ -164,23 +173,45 @@ impl Census {
     ) -> Option<u32> {
         let expected = PageRecord {
             run: record.run,
-            next: record.next,
-            previous: record.previous,
             ..PageRecord::new(FREE_FIRST)
         };
         let inside = PageRecord::new(FREE_INSIDE);
-        let last = PageRecord {
-            previous: page,
-            ..inside
-        };
-        check(*record == expected && fits(layout, page, record.run))?;
+        check(record.unlinked() == expected && fits(layout, page, record.run))?;
+        self.stray_link |= record.zeros != 0;
         for index in 1..record.run {
             let is_last = index == record.run - 1;
-            let expected = if is_last { last } else { inside };
-            check(PageRecord::read(bytes, layout, page.plus(index)) == expected)?;
+            let expected = PageRecord {
+                previous: if is_last { page } else { PageNo::NONE },
+                ..inside
+            };
+            let record = PageRecord::read(bytes, layout, page.plus(index));
+            check(record.unlinked() == inside)?;
+            self.stray_link |= record != expected;
         }
         self.free_runs += 1;
         self.free_pages += record.run;
+        Some(record.run)
+    }
+
+    fn add_taken_run(
+        &mut self,
+        bytes: &[u8],
+        layout: Layout,
+        page: PageNo,
+        record: &PageRecord,
+    ) -> Option<u32> {
+        let expected = PageRecord {
+            run: record.run,
+            ..PageRecord::new(TAKEN_FIRST)
+        };
+        let inside = PageRecord::new(TAKEN_INSIDE);
+        check(record.unlinked() == expected && fits(layout, page, record.run))?;
+        self.stray_link |= *record != expected;
+        for index in 1..record.run {
+            let record = PageRecord::read(bytes, layout, page.plus(index));
+            check(record.unlinked() == inside)?;
+            self.stray_link |= record != inside;
+        }
         Some(record.run)
     }
 
@@ -199,13 +230,12 @@ impl Census {
                 record.bitmap & class.full_word()
             },
             class: record.class,
-            next: record.next,
-            previous: record.previous,
             ..PageRecord::new(CLASS_PAGE)
         };
         let bitmap = layout.bitmap_at(page, class);
         let own = class.own_word();
-        check(*record == expected && word(bytes, bitmap) & own == own)?;
+        check(record.unlinked() == expected && word(bytes, bitmap) & own == own)?;
+        self.stray_link |= record.zeros != 0;
 
         let marked: u32 = (0..class.bitmap_words())
             .map(|index| word(bytes, bitmap_word_at(bitmap, index)).count_ones())
@@ -224,20 +254,6 @@ impl Census {
         }
         Some(1)
     }
-}
-
-/// The length of the taken run that begins at `page`, if its records are right.
-fn taken_run(bytes: &[u8], layout: Layout, page: PageNo, record: &PageRecord) -> Option<u32> {
-    let expected = PageRecord {
-        run: record.run,
-        ..PageRecord::new(TAKEN_FIRST)
-    };
-    let inside = PageRecord::new(TAKEN_INSIDE);
-    check(*record == expected && fits(layout, page, record.run))?;
-    for index in 1..record.run {
-        check(PageRecord::read(bytes, layout, page.plus(index)) == inside)?;
-    }
-    Some(record.run)
 }
 
 /// Whether a run of this length can begin at `page`.

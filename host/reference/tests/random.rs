@@ -1,10 +1,11 @@
 //! Random calls from fixed seeds. After every call the whole slice is as the
 //! plain model says byte for byte, and the pool shows what the live set
-//! expects, which is fed by arguments and answers alone.
+//! expects, which is fed by arguments and answers alone. Calls go on after a
+//! conversion, and after links and counts were lost and mended.
 
 use reference::{
-    alloc, alloc_sound, convert, format, free, free_sound, live_blocks, peaks, shown, validate,
-    Block, Call, LiveSet, Peaks, View,
+    alloc, alloc_sound, check_mended, convert, format, free, free_sound, live_blocks, mend, peaks,
+    shown, validate, Block, Call, LiveSet, Peaks, View,
 };
 
 #[path = "support/plain.rs"]
@@ -187,6 +188,30 @@ impl Trial {
         assert_eq!(shown(&self.pool).as_ref(), Some(&self.view));
     }
 
+    /// Loses links and counts, and goes on in a mended copy.
+    fn mend(&mut self) {
+        let mut damaged = self.pool.clone();
+        self.rng.fill(&mut damaged[4..8]);
+        for class in 0..9 {
+            let at = self.edition.class_record_at(class);
+            self.rng.fill(&mut damaged[at..at + 8]);
+        }
+        for page in 0..self.pages {
+            // All but the top bit of next.
+            let at = self.edition.page_record_at(page) + 11;
+            self.rng.fill(&mut damaged[at..at + 5]);
+        }
+        let mut target = self.rng.bytes(damaged.len());
+        assert_eq!(mend(&damaged, &mut target), Ok(self.pages as u32));
+        assert_eq!(check_mended(&damaged, &target), Ok(()));
+        assert_eq!(check_mended(&damaged, &self.pool), Ok(()));
+        let pages = self.page_at(0);
+        assert!(target[pages..] == self.pool[pages..]);
+        self.plain.mend();
+        assert!(target[..pages] == self.plain.records());
+        self.pool = target;
+    }
+
     /// Gives everything back; what remains is one free run.
     fn empty(&mut self) {
         while let Some(offset) = self.live_offset() {
@@ -234,6 +259,9 @@ fn small_pools_fill_and_empty() {
             }
             if phase == 2 && trial.edition == ONE {
                 trial.convert();
+            }
+            if phase % 2 == 0 {
+                trial.mend();
             }
         }
         trial.empty();

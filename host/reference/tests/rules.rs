@@ -1,14 +1,17 @@
-//! Damaged pools and the first rule that each breaks.
+//! Damaged pools, the first rule that each breaks, and what mending makes of
+//! them.
 
 use reference::{
-    alloc, alloc_sound, broken_rule, convert, format, free, free_sound, live_blocks, validate,
-    Refusal,
+    alloc, alloc_sound, broken_rule, check_mended, convert, format, free, free_sound, live_blocks,
+    mend, validate, Refusal,
 };
 
 #[path = "support/bits.rs"]
 mod bits;
 #[path = "support/literal.rs"]
 mod literal;
+#[path = "support/mended.rs"]
+mod mended;
 
 use bits::{
     set, CLASS, CLASS_FIRST, EDITION, FAILS, FIRST, FREE, KIND, MAP, MIN_SHIFT, NEXT, PAGES,
@@ -131,6 +134,38 @@ fn assert_breaks(bytes: &mut [u8], rule: u8, what: &str) {
         }
         assert!(bytes == before, "{what}");
     }
+    assert_mends(bytes, what);
+}
+
+/// The bytes are mended as literally read, and the copy is accepted, or refused
+/// with 13. Answers that number, or 0.
+fn assert_mends(damaged: &[u8], what: &str) -> u8 {
+    let mut target = vec![0x5A; damaged.len()];
+    let answer = mend(damaged, &mut target).map_err(|refusal| refusal.number());
+    assert_checks(damaged, damaged, what);
+    assert_checks(damaged, &target, what);
+    match mended::mended(damaged, target.len(), |_| ()) {
+        Ok(bytes) => {
+            let pages = bits::get(damaged, PAGES, 16) as u32;
+            assert_eq!(answer, Ok(pages), "{what}");
+            assert!(target == bytes, "{what}");
+            assert_eq!(check_mended(damaged, &target), Ok(()), "{what}");
+            0
+        }
+        Err(number) => {
+            assert_eq!(answer, Err(number), "{what}");
+            assert!(target.iter().all(|byte| *byte == 0x5A), "{what}");
+            number
+        }
+    }
+}
+
+/// The copy is accepted or refused as literally read. Answers the number, or 0.
+fn assert_checks(damaged: &[u8], copy: &[u8], what: &str) -> u8 {
+    let answer = check_mended(damaged, copy).map_err(|refusal| refusal.number());
+    let number = mended::checked(damaged, copy);
+    assert_eq!(answer.err().unwrap_or(0), number, "{what}");
+    number
 }
 
 /// Each number put into the field makes the fixture break the rule first, in
@@ -571,13 +606,105 @@ fn every_field_with_every_telling_number() {
                     set(&mut bytes, at, width, number);
                     let rule = broken_rule(&bytes);
                     let expected = literal::broken_rule(&bytes);
-                    assert_eq!(rule, expected, "{edition:?}, {record:?}, {above}: {number}");
+                    let what = format!("{edition:?}, {record:?}, {above}: {number}");
+                    assert_eq!(rule, expected, "{what}");
                     broken[rule as usize] += 1;
+                    let mended = assert_mends(&bytes, &what);
+                    if !tells_blocks(record, above) {
+                        assert_eq!(mended, 0, "{what}");
+                    }
                 }
             }
         }
         assert!(broken.iter().all(|count| *count > 0), "{broken:?}");
     }
+}
+
+/// Whether live blocks depend on a field.
+fn tells_blocks(record: Record, above: usize) -> bool {
+    match record {
+        Header => ![FREE, FIRST].contains(&above),
+        Class(_) => false,
+        Page(_) => ![NEXT, PREVIOUS, ZEROS].contains(&above),
+    }
+}
+
+/// What is lost at once, in records that tell no block, is mended, and nothing
+/// of it is seen in the copy but asks, failures and peaks.
+#[test]
+fn all_that_tells_no_block_is_mended() {
+    let mut rng = Rng::new(5);
+    for edition in EDITIONS {
+        let sound = fixture(edition);
+        let mut whole = sound.clone();
+        assert_eq!(mend(&sound, &mut whole), Ok(16));
+        for _ in 0..100 {
+            let pages = (0..16).map(Page);
+            let records = [Header].into_iter().chain((0..9).map(Class)).chain(pages);
+            let mut damaged = sound.clone();
+            let mut expected = whole.clone();
+            for record in records {
+                for &(above, width) in record.fields(edition) {
+                    if tells_blocks(record, above) {
+                        continue;
+                    }
+                    let number = rng.word() >> (64 - width);
+                    put(&mut damaged, record, above, width, number);
+                    let used = |class| bits::get(&sound, Class(class).at(edition) + USED, 24);
+                    match (record, above) {
+                        (Class(_), REQS | FAILS) => {
+                            put(&mut expected, record, above, width, number)
+                        }
+                        (Class(class), PEAK) => {
+                            let peak = number.max(used(class));
+                            put(&mut expected, record, above, width, peak);
+                        }
+                        _ => {}
+                    }
+                }
+            }
+            let mut target = rng.bytes(damaged.len());
+            assert_eq!(mend(&damaged, &mut target), Ok(16));
+            assert!(target == expected);
+            assert_mends(&damaged, "all fields that tell no block");
+        }
+    }
+}
+
+/// 12 comes before 13, in both calls.
+#[test]
+fn lengths_and_editions_of_mended_copies() {
+    let sound = fixture(ONE);
+    let zeros = vec![0; sound.len()];
+    for damaged in [&sound[..], &zeros, &[1], &[]] {
+        for length in [0, 1, 2, sound.len() - 1, sound.len(), sound.len() + 1] {
+            let mut target = vec![0x5A; length];
+            let answer = mend(damaged, &mut target).map_err(|refusal| refusal.number());
+            let due = mended::mended(damaged, length, |_| ());
+            assert_eq!(answer.err(), due.err(), "{length}");
+            assert_eq!(answer == Err(12), length != damaged.len(), "{length}");
+            if answer.is_err() {
+                assert!(target.iter().all(|byte| *byte == 0x5A), "{length}");
+            }
+            let number = assert_checks(damaged, &target, "any bytes");
+            let unequal = length != damaged.len() || damaged.first() != target.first();
+            assert_eq!(number == 12, unequal, "{length}");
+        }
+    }
+    for (old, new) in (0..=3).flat_map(|old| [0, 1, 2, 3].map(|new| (old, new))) {
+        let [damaged, copy] = [old, new].map(|edition| {
+            let mut bytes = sound.clone();
+            bytes[0] = edition;
+            bytes
+        });
+        let due = match (old, new) {
+            (1, 1) => 0,
+            _ if old == new => 13,
+            _ => 12,
+        };
+        assert_eq!(assert_checks(&damaged, &copy, "editions"), due);
+    }
+    assert_eq!(assert_checks(&[], &[], "nothing at all"), 13);
 }
 
 /// A sound pool of a few pages after some random calls.
@@ -667,6 +794,64 @@ fn random_conversions() {
         source.extend(rng.bytes(tail));
         assert_converts(&mut rng, &source, &format!("trial {trial}"));
     }
+}
+
+/// A copy that another hand mended, lists in any order, or one that is wrong.
+fn copy(rng: &mut Rng, damaged: &[u8]) -> Vec<u8> {
+    let shuffled = mended::mended(damaged, damaged.len(), |list| {
+        for place in (1..list.len()).rev() {
+            list.swap(place, rng.below(place as u64 + 1) as usize);
+        }
+    });
+    let Ok(mut copy) = shuffled else {
+        return damaged.to_vec();
+    };
+    let edition = EDITIONS[usize::from(copy[0]) - 1];
+    match rng.below(8) {
+        0 => drop(alloc(&mut copy, 8 << rng.below(11))),
+        1 => {
+            let live: Vec<u32> = live_blocks(&copy).unwrap().into_keys().collect();
+            if !live.is_empty() {
+                free(&mut copy, rng.pick(&live)).unwrap();
+            }
+        }
+        2 => {
+            let pages = (copy.len() - edition.head()) / PER_PAGE;
+            let first = edition.page_at(pages, 0);
+            let at = first + rng.below((copy.len() - first) as u64) as usize;
+            copy[at] ^= 1 << rng.below(8);
+        }
+        3 => damage(rng, edition, &mut copy),
+        4 => drop(copy.pop()),
+        5 => {
+            for class in 0..9 {
+                put(&mut copy, Class(class), REQS, 32, rng.word() >> 32);
+                put(&mut copy, Class(class), FAILS, 32, rng.word() >> 32);
+            }
+        }
+        _ => {}
+    }
+    copy
+}
+
+#[test]
+fn random_copies() {
+    let mut rng = Rng::new(6);
+    let mut seen = [0; 15];
+    for trial in 0..TRIALS / 5 {
+        let edition = rng.pick(&EDITIONS);
+        let mut damaged = random_pool(&mut rng, edition);
+        let tail = rng.below(20) as usize;
+        damaged.extend(rng.bytes(tail));
+        for _ in 0..rng.below(4) {
+            damage(&mut rng, edition, &mut damaged);
+        }
+        let copy = copy(&mut rng, &damaged);
+        let number = assert_checks(&damaged, &copy, &format!("trial {trial}"));
+        seen[usize::from(number)] += 1;
+    }
+    let seen = [0, 3, 12, 13, 14].map(|number| seen[number]);
+    assert!(seen.iter().all(|count| *count > TRIALS / 300), "{seen:?}");
 }
 
 #[test]

@@ -28,6 +28,9 @@ pub enum Turn {
         at: usize,
         bits: u64,
     },
+    /// Mends into another slice, which is the pool from then on, unless that is
+    /// refused.
+    Mend,
 }
 
 /// A list of turns that can be played again. Each turn keeps its number when

@@ -2,8 +2,12 @@
 //! is printed is short. Each is the second program with one fault. Against the
 //! second program it differs; against itself only the live blocks tell.
 
-use reference::layout::{set_word, word, ClassRecord};
-use reference::{alloc_sound, free_sound, live_blocks, need, shown, Block, Class, Layout, Need};
+use reference::layout::{
+    set_next, set_previous, set_word, word, ClassRecord, Header, PageNo, PageRecord,
+};
+use reference::{
+    alloc_sound, free_sound, live_blocks, need, peaks, shown, Block, Class, Layout, Need,
+};
 use support::{Edition, EDITIONS, PAGE, PER_PAGE, TWO};
 
 use crate::case::{Case, Setting, Turn};
@@ -310,6 +314,151 @@ fn as_edition_1<T>(pool: &mut [u8], call: impl Fn(&mut [u8]) -> T) -> T {
     answer
 }
 
+const MENDS_IN_FALLING_ORDER: Program = Program {
+    name: "lists pages in falling order",
+    mend: |damaged, target| {
+        let answer = (SECOND.mend)(damaged, target);
+        if answer.is_ok() {
+            turn_over(target);
+        }
+        answer
+    },
+    ..SECOND
+};
+
+/// Turns the free-run list over.
+fn turn_over(pool: &mut [u8]) {
+    let layout = Layout::of(pool).expect("a sound pool");
+    let mut header = Header::read(pool);
+    let mut page = header.first;
+    while page != PageNo::NONE {
+        let record = PageRecord::read(pool, layout, page);
+        set_next(pool, layout, page, record.previous);
+        set_previous(pool, layout, page, record.next);
+        header.first = page;
+        page = record.next;
+    }
+    header.write(pool);
+}
+
+/// The second program's mender, and the records of each class then changed, told
+/// the damaged pool's.
+fn mend_otherwise(
+    damaged: &[u8],
+    target: &mut [u8],
+    change: impl Fn(&ClassRecord, &mut ClassRecord),
+) -> Result<u32, u8> {
+    let pages = (SECOND.mend)(damaged, target)?;
+    let layout = Layout::of(target).expect("a sound pool");
+    change_records(target, |class, record| {
+        change(&ClassRecord::read(damaged, layout, class), record)
+    });
+    Ok(pages)
+}
+
+const CLEARS_TALLIES: Program = Program {
+    name: "clears asks and failures",
+    mend: |damaged, target| {
+        mend_otherwise(damaged, target, |_, record| {
+            (record.reqs, record.fails) = (0, 0);
+        })
+    },
+    ..SECOND
+};
+
+const BEGINS_THE_PEAK_ANEW: Program = Program {
+    name: "mends the peak to used",
+    mend: |damaged, target| {
+        mend_otherwise(damaged, target, |_, record| set_peak(record, record.used))
+    },
+    ..SECOND
+};
+
+const KEEPS_A_LOW_PEAK: Program = Program {
+    name: "keeps a peak below used",
+    mend: |damaged, target| {
+        mend_otherwise(damaged, target, |old, record| set_peak(record, peak(old)))
+    },
+    ..SECOND
+};
+
+const KEEPS_COUNTS: Program = Program {
+    name: "keeps used and total",
+    mend: |damaged, target| {
+        mend_otherwise(damaged, target, |old, record| {
+            (record.used, record.total) = (old.used, old.total);
+        })
+    },
+    ..SECOND
+};
+
+const KEEPS_ZERO_BITS: Program = Program {
+    name: "keeps the zero bits of page records",
+    mend: |damaged, target| {
+        let answer = (SECOND.mend)(damaged, target);
+        if let (Ok(pages), Ok(layout)) = (answer, Layout::of(damaged)) {
+            for page in (0..pages).map(PageNo) {
+                let zeros = PageRecord::read(damaged, layout, page).zeros;
+                let record = PageRecord::read(target, layout, page);
+                PageRecord { zeros, ..record }.write(target, layout, page);
+            }
+        }
+        answer
+    },
+    ..SECOND
+};
+
+const LEAVES_THE_TARGETS_TAIL: Program = Program {
+    name: "leaves the target's tail",
+    mend: |damaged, target| {
+        let old = target.to_vec();
+        let answer = (SECOND.mend)(damaged, target);
+        if answer.is_ok() {
+            let (edition, pages) = shape(target);
+            let tail = edition.length(pages);
+            target[tail..].copy_from_slice(&old[tail..]);
+        }
+        answer
+    },
+    ..SECOND
+};
+
+const COPIES_BEFORE_IT_LOOKS: Program = Program {
+    name: "copies what it then refuses",
+    mend: |damaged, target| {
+        target.copy_from_slice(damaged);
+        (SECOND.mend)(damaged, target)
+    },
+    ..SECOND
+};
+
+const MENDS_NO_COUNTS: Program = Program {
+    name: "takes wrong counts for beyond mending",
+    mend: |damaged, target| match (SECOND.broken_rule)(damaged) {
+        6 => Err(13),
+        _ => (SECOND.mend)(damaged, target),
+    },
+    ..SECOND
+};
+
+const CHECKS_THE_DAMAGED_COUNTS: Program = Program {
+    name: "looks at the damaged pool's counts",
+    check_mended: |damaged, mended| match (SECOND.broken_rule)(damaged) {
+        6 => 13,
+        _ => (SECOND.check_mended)(damaged, mended),
+    },
+    ..SECOND
+};
+
+const COMPARES_PEAKS: Program = Program {
+    name: "compares the copy's peaks",
+    check_mended: |damaged, mended| match (SECOND.check_mended)(damaged, mended) {
+        0 if peaks(damaged) != peaks(mended) => 14,
+        number => number,
+    },
+    ..SECOND
+};
+
 /// Finds the double out and answers what would be printed.
 fn found(double: Program, other: Program) -> Found {
     let plans = (0..1_000).map(|seed| Plan {
@@ -346,6 +495,17 @@ fn every_double_is_caught_in_a_handful_of_calls() {
         (OVERLOOKS_ZERO_BITS, "though the records are unsound"),
         (OVERLOOKS_LOW_PEAKS, "though the records are unsound"),
         (TAKES_ANY_EDITION_FOR_1, "though the records are unsound"),
+        (MENDS_IN_FALLING_ORDER, "a list that does not rise"),
+        (CLEARS_TALLIES, "the copy has other asks or failures"),
+        (BEGINS_THE_PEAK_ANEW, "the copy has another peak"),
+        (KEEPS_A_LOW_PEAK, "refuses its copy with 3"),
+        (KEEPS_COUNTS, "refuses its copy with 3"),
+        (KEEPS_ZERO_BITS, "refuses its copy with 3"),
+        (LEAVES_THE_TARGETS_TAIL, "refuses its copy with 14"),
+        (COPIES_BEFORE_IT_LOOKS, "a refused call changed the target"),
+        (MENDS_NO_COUNTS, "though the live blocks are told"),
+        (CHECKS_THE_DAMAGED_COUNTS, "refuses its copy with 13"),
+        (COMPARES_PEAKS, "refuses its copy with 14"),
     ] {
         let different = found(double, SECOND);
         let alone = found(double, double);

@@ -2,10 +2,10 @@
 //! answers alone tell. Every turn is held against all that the rules say of it.
 
 use std::collections::HashMap;
-use std::fmt;
 use std::ops::Range;
+use std::{fmt, mem};
 
-use reference::layout::{set_word, word, ClassRecord};
+use reference::layout::{set_word, word, ClassRecord, Header, PageNo, PageRecord};
 use reference::{
     live_blocks, need, peaks, shown, Call, Class, Layout, LiveSet, Need, Peaks, View, CLASSES,
 };
@@ -26,6 +26,8 @@ pub enum Event {
     Refused(u8),
     /// Damaged: the first broken rule, or 0.
     Broken(u8),
+    /// The page count.
+    Mended(u32),
     Nothing,
 }
 
@@ -36,6 +38,7 @@ impl fmt::Display for Event {
             Event::Freed(bytes) => write!(f, "back {bytes}"),
             Event::Refused(number) => write!(f, "refused with {number}"),
             Event::Broken(rule) => write!(f, "broken rule {rule}"),
+            Event::Mended(pages) => write!(f, "mended, pages {pages}"),
             Event::Nothing => f.write_str("nothing"),
         }
     }
@@ -55,6 +58,9 @@ pub struct Game {
     pool: Range<usize>,
     /// The live blocks; nobody knows them while the records are unsound.
     live: Option<LiveSet>,
+    /// Those that mending must bring back, while the records are unsound and
+    /// nothing was damaged that tells them.
+    lost: Option<LiveSet>,
     /// What the live blocks made the pool show when they were last known.
     view: View,
     /// What they and those before made it show so in edition 2.
@@ -79,6 +85,7 @@ impl Game {
             pool,
             view: live.expected(),
             live: Some(live),
+            lost: None,
             peaks: Peaks::new([0; CLASSES]),
             taken: HashMap::new(),
         };
@@ -136,6 +143,7 @@ impl Game {
     pub fn play(&mut self, number: usize, turn: Turn) -> Result<Event, Wrong> {
         match turn {
             Turn::Damage { at, bits } => self.damage(at, bits),
+            Turn::Mend => self.mend(number),
             Turn::Alloc(size) => {
                 let event = self.call(number, Call::Alloc(size))?;
                 if let Event::Allocated(offset) = event {
@@ -166,21 +174,124 @@ impl Game {
             (program.broken_rule)(pool)
         });
         self.alike(rules.map(Event::Broken))?;
+        let known = self.live.take().or(self.lost.take());
+        self.lost = known.filter(|_| !self.tells_blocks(at, bits));
         // After damage a sound pool is read by itself: no call told of it.
-        self.live = live_blocks(self.pool()).map(|blocks| {
-            let mut live = LiveSet::new(self.setting.pages as u32);
-            for (offset, block) in blocks {
-                let entered = live.record_alloc(block.bytes() as u32, Ok(offset));
-                entered.expect("blocks of a sound pool are apart");
-            }
-            live
-        });
-        if let Some(live) = &self.live {
-            self.view = live.expected();
-            self.peaks = Peaks::new(peaks(self.pool()).unwrap_or_default());
-            self.pool_shows_the_view()?;
+        if let Some(live) = live_set(self.pool()) {
+            self.read_anew(live)?;
         }
         Ok(Event::Broken(rules[0]))
+    }
+
+    /// Whether live blocks depend on bits of the word at a byte.
+    fn tells_blocks(&self, at: usize, bits: u64) -> bool {
+        let (head, first) = (
+            self.edition().head(),
+            self.edition().page_at(self.pages(), 0),
+        );
+        match at {
+            // All but the free pages and the first free run.
+            0 => bits >> 32 != 0,
+            _ if at < head => false,
+            // All but links and zero bits, in the second word.
+            _ if at < first && (at - head) % RECORD == 8 => bits >> 41 != 0,
+            _ => true,
+        }
+    }
+
+    /// Goes on with the live blocks and peaks of a sound pool, which are those
+    /// of before where these are known.
+    fn read_anew(&mut self, live: LiveSet) -> Result<(), Wrong> {
+        if self.lost.take().is_some_and(|lost| lost != live) {
+            return Err("the pool shows other live blocks than before the damage".into());
+        }
+        self.view = live.expected();
+        self.live = Some(live);
+        self.peaks = Peaks::new(peaks(self.pool()).unwrap_or_default());
+        self.pool_shows_the_view()
+    }
+
+    /// Mends both pools into other slices, and goes on in these.
+    fn mend(&mut self, number: usize) -> Result<Event, Wrong> {
+        let blank = self.rng(number).bytes(self.before.len());
+        let mut copies = [blank.clone(), blank.clone()];
+        let mut events = [Event::Nothing; 2];
+        for (side, event) in events.iter_mut().enumerate() {
+            let damaged = &self.bytes[side][self.pool.clone()];
+            let target = &mut copies[side][self.pool.clone()];
+            let answer = (self.programs[side].mend)(damaged, target);
+            *event = answer.map_or_else(Event::Refused, Event::Mended);
+        }
+        self.alike(events)?;
+        let all = 0..blank.len();
+        self.same(&copies[0], &copies[1], all.clone(), "the copies differ")?;
+        let known = self.live.is_some() || self.lost.is_some();
+        match events[0] {
+            Event::Mended(pages) if pages as usize == self.pages() => {
+                for outside in [0..self.pool.start, self.pool.end..blank.len()] {
+                    self.same(&blank, &copies[0], outside, "the call wrote")?;
+                }
+                self.go_on_with(copies)?;
+            }
+            Event::Refused(13) if !known => {
+                self.same(&blank, &copies[0], all, "a refused call changed the target")?;
+            }
+            event => return Err(format!("{event}, though the live blocks are told")),
+        }
+        Ok(events[0])
+    }
+
+    /// The copies are accepted and sound, and hold what the damaged pools did.
+    fn go_on_with(&mut self, copies: [Vec<u8>; 2]) -> Result<(), Wrong> {
+        let damaged = mem::replace(&mut self.bytes, copies);
+        for (program, (old, new)) in self.programs.iter().zip(damaged.iter().zip(&self.bytes)) {
+            let pool = self.pool.clone();
+            let number = (program.check_mended)(&old[pool.clone()], &new[pool]);
+            if number != 0 {
+                return Err(format!("{} refuses its copy with {number}", program.name));
+            }
+        }
+        let first = self.pool.start + self.edition().page_at(self.pages(), 0);
+        let what = "bytes that no call writes changed";
+        self.same(&damaged[0], &self.bytes[0], first..self.pool.end, what)?;
+        let live = live_set(self.pool()).ok_or("the copy is unsound")?;
+        self.lost = self.live.take().or(self.lost.take());
+        self.read_anew(live)?;
+        self.history_is_kept(&damaged[0][self.pool.clone()])?;
+        self.lists_rise()
+    }
+
+    /// Asks and failures are the damaged pool's, and so are peaks that are not
+    /// below used.
+    fn history_is_kept(&self, damaged: &[u8]) -> Result<(), Wrong> {
+        let record = |pool, class| ClassRecord::read(pool, self.layout(), class);
+        for class in Class::all() {
+            let (old, new) = (record(damaged, class), record(self.pool(), class));
+            if (old.reqs, old.fails) != (new.reqs, new.fails) {
+                return Err("the copy has other asks or failures".into());
+            }
+            let peak = old.peak.map(|peak| peak.most.max(new.used));
+            if new.peak.map(|peak| peak.most) != peak {
+                return Err("the copy has another peak".into());
+            }
+        }
+        Ok(())
+    }
+
+    /// Each list of a sound pool is in rising page order.
+    fn lists_rise(&self) -> Result<(), Wrong> {
+        let (pool, layout) = (self.pool(), self.layout());
+        let classes = Class::all().map(|class| ClassRecord::read(pool, layout, class).first);
+        for mut page in classes.chain([Header::read(pool).first]) {
+            while page != PageNo::NONE {
+                let next = PageRecord::read(pool, layout, page).next;
+                if next.0 <= page.0 {
+                    return Err("the copy has a list that does not rise".into());
+                }
+                page = next;
+            }
+        }
+        Ok(())
     }
 
     /// Makes a call and holds everything that it may and may not do against it.
@@ -211,11 +322,16 @@ impl Game {
         Ok(event)
     }
 
+    /// The numbers of a turn.
+    fn rng(&self, number: usize) -> Rng {
+        Rng::new(self.setting.seed.wrapping_mul(1_000_003) + number as u64)
+    }
+
     /// Changes bytes that callers may change between calls: those of a few
     /// pages, so that large pools stay quick, and at times of many.
     fn scramble(&mut self, number: usize) {
         let pages = self.setting.pages;
-        let mut rng = Rng::new(self.setting.seed.wrapping_mul(1_000_003) + number as u64);
+        let mut rng = self.rng(number);
         let count = if rng.once_in(50) { pages } else { 2 };
         let edition = self.edition();
         let tail = edition.length(pages)..self.pool.len();
@@ -402,6 +518,16 @@ impl Game {
     }
 }
 
+/// The live blocks of a sound pool read by itself.
+fn live_set(pool: &[u8]) -> Option<LiveSet> {
+    let mut live = LiveSet::new(Layout::of(pool).ok()?.pages);
+    for (offset, block) in live_blocks(pool)? {
+        let entered = live.record_alloc(block.bytes() as u32, Ok(offset));
+        entered.expect("blocks of a sound pool are apart");
+    }
+    Some(live)
+}
+
 fn map_bytes(class: Option<Class>) -> usize {
     class
         .filter(|class| class.bitmap_in_page())
@@ -425,6 +551,7 @@ pub fn replay(programs: [Program; 2], case: &Case) -> Result<(), Vec<Line>> {
                     game.place(game.pool.start + at)
                 )
             }
+            (Turn::Mend, _) => "mend".into(),
             (_, Some(offset)) => format!("free {offset}"),
             (_, None) => "free of no block".into(),
         };

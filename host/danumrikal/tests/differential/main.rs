@@ -2,7 +2,9 @@
 //! after each call, on sound and on damaged pools of both editions. And the live
 //! blocks, told by calls and answers alone while callers' bytes and the tail
 //! become others before each call: they say what the pool shows, peaks too, and
-//! how the next call is ruled. A game that goes wrong is shrunk and printed as a list of calls.
+//! how the next call is ruled. Damaged pools are mended at times, into another
+//! slice in which the game goes on. A game that goes wrong is shrunk and printed
+//! as a list of calls.
 //!
 //! The seeds are fixed. More games, with further seeds, here ten times as many:
 //!
@@ -107,7 +109,7 @@ fn large_pools_break_into_pieces() {
 }
 
 #[test]
-fn damaged_pools_are_validated_alike_and_stay_whole() {
+fn damaged_pools_are_validated_and_mended_alike() {
     let games = 0..300 * times();
     let seen = compare(
         80_000,
@@ -122,6 +124,7 @@ fn damaged_pools_are_validated_alike_and_stay_whole() {
     );
     assert!(seen.refused[3] > 5_000);
     assert!(seen.broken.iter().all(|count| *count > 20));
+    assert!(seen.mended > 2_000 && seen.refused[13] > 2_000);
 }
 
 #[test]

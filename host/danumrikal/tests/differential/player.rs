@@ -21,7 +21,7 @@ pub struct Plan {
     pub turns: usize,
     /// The habit from beginning to end; else it changes now and then.
     pub habit: Option<Habit>,
-    /// Whether records and maps are damaged, and at times healed again.
+    /// Whether records and maps are damaged, and at times mended or healed.
     pub damaging: bool,
 }
 
@@ -83,9 +83,10 @@ pub struct Seen {
     pub allocated: [u64; 10],
     pub freed: u64,
     /// Refusals by number.
-    pub refused: [u64; 11],
+    pub refused: [u64; 14],
     /// First broken rules after damage, 0 for none.
     pub broken: [u64; 7],
+    pub mended: u64,
 }
 
 impl Seen {
@@ -101,10 +102,11 @@ impl Seen {
             (_, Event::Freed(_)) => self.freed += 1,
             (_, Event::Refused(number)) => self.refused[usize::from(number)] += 1,
             (_, Event::Broken(rule)) => self.broken[usize::from(rule)] += 1,
+            (_, Event::Mended(_)) => self.mended += 1,
             _ => {}
         }
-        if !matches!(event, Event::Broken(_) | Event::Nothing) {
-            self.calls += 1;
+        if matches!(turn, Turn::Alloc(_) | Turn::Free(_) | Turn::FreeOf(_)) {
+            self.calls += u64::from(event != Event::Nothing);
         }
     }
 }
@@ -113,6 +115,7 @@ impl AddAssign for Seen {
     fn add_assign(&mut self, other: Seen) {
         self.calls += other.calls;
         self.freed += other.freed;
+        self.mended += other.mended;
         let sums = [&mut self.allocated[..], &mut self.refused, &mut self.broken];
         let counts = [&other.allocated[..], &other.refused, &other.broken];
         for (sum, count) in sums.into_iter().flatten().zip(counts.into_iter().flatten()) {
@@ -147,7 +150,10 @@ impl Player {
             self.damage.push(damage);
             return damage;
         }
-        // Unsound pools only refuse, so damage is healed after a few calls.
+        // Unsound pools only refuse, so damage is mended or healed after a few calls.
+        if self.plan.damaging && rng.once_in(if self.damage.is_empty() { 50 } else { 6 }) {
+            return Turn::Mend;
+        }
         if rng.once_in(3) {
             if let Some(heal) = self.damage.pop() {
                 return heal;
@@ -175,7 +181,7 @@ impl Player {
                 self.last_freed = Some(taken);
             }
             // Nothing to heal in a sound pool.
-            (_, Event::Broken(0)) => self.damage.clear(),
+            (_, Event::Broken(0) | Event::Mended(_)) => self.damage.clear(),
             _ => {}
         }
     }

@@ -127,7 +127,7 @@ fn smaller_numbers(case: &mut Case, place: usize, fails: &impl Fn(&Case) -> bool
                 }
             });
         }
-        Turn::FreeOf(_) => {}
+        Turn::FreeOf(_) | Turn::Mend => {}
     }
 }
 

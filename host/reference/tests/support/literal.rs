@@ -4,20 +4,31 @@
 use crate::bits;
 use support::{Edition, ONE, TWO};
 
-const CHUNKS: [usize; 9] = [512, 256, 128, 64, 32, 16, 8, 4, 2];
-const OWN: [usize; 9] = [8, 2, 1, 0, 0, 0, 0, 0, 0];
-const NONE: usize = 65_535;
+pub const CHUNKS: [usize; 9] = [512, 256, 128, 64, 32, 16, 8, 4, 2];
+pub const OWN: [usize; 9] = [8, 2, 1, 0, 0, 0, 0, 0, 0];
+pub const NONE: usize = 65_535;
 
-struct Page {
+pub struct Page {
     map: u64,
-    kind: usize,
-    class: usize,
-    run: usize,
+    pub kind: usize,
+    pub class: usize,
+    pub run: usize,
     next: usize,
     previous: usize,
     zeros: usize,
     /// The chunks' marks, in a class page of one of the nine classes.
-    marks: Vec<bool>,
+    pub marks: Vec<bool>,
+}
+
+impl Page {
+    pub fn is_full(&self) -> bool {
+        self.marks.iter().all(|mark| *mark)
+    }
+
+    /// Marked chunks other than the map's own.
+    pub fn in_hands(&self) -> usize {
+        self.marks.iter().filter(|mark| **mark).count() - OWN[self.class]
+    }
 }
 
 fn read_page(bytes: &[u8], edition: Edition, pages: usize, page: usize) -> Page {
@@ -48,15 +59,15 @@ fn read_page(bytes: &[u8], edition: Edition, pages: usize, page: usize) -> Page 
     }
 }
 
-/// The first broken rule's number, or 0.
-pub fn broken_rule(bytes: &[u8]) -> u8 {
+/// Edition and pages of a pool that obeys rule 1.
+pub fn read(bytes: &[u8]) -> Option<(Edition, Vec<Page>)> {
     let (edition, shortest, too_long, head) = match bytes.first() {
         Some(1) => (ONE, 4_264, 16_847_016, 152),
         Some(2) => (TWO, 4_336, 16_847_088, 224),
-        _ => return 1,
+        _ => return None,
     };
     if bytes.len() < shortest || bytes.len() >= too_long {
-        return 1;
+        return None;
     }
     let count = (bytes.len() - head) / 4_112;
     let header = |above, width| bits::get(bytes, above, width) as usize;
@@ -64,13 +75,21 @@ pub fn broken_rule(bytes: &[u8]) -> u8 {
         || header(bits::PAGE_SHIFT, 4) != 12
         || header(bits::PAGES, 16) != count
     {
-        return 1;
+        return None;
     }
-    let pages: Vec<Page> = (0..count)
-        .map(|page| read_page(bytes, edition, count, page))
-        .collect();
+    let page = |page| read_page(bytes, edition, count, page);
+    Some((edition, (0..count).map(page).collect()))
+}
 
-    if !pages_divide(&pages) || !fields_are_as_described(&pages) {
+/// The first broken rule's number, or 0.
+pub fn broken_rule(bytes: &[u8]) -> u8 {
+    let Some((edition, pages)) = read(bytes) else {
+        return 1;
+    };
+    let header = |above, width| bits::get(bytes, above, width) as usize;
+
+    if !pages_divide(&pages) || !fields_are_as_described(&pages) || !links_are_as_described(&pages)
+    {
         return 2;
     }
 
@@ -79,23 +98,21 @@ pub fn broken_rule(bytes: &[u8]) -> u8 {
         return 3;
     }
 
-    let full = |page: &Page| page.marks.iter().all(|mark| *mark);
     let record = |class, above, width| {
         bits::get(bytes, bits::class_record(edition, class) + above, width) as usize
     };
     for class in 0..9 {
-        let open = |page: &Page| page.kind == 2 && page.class == class && !full(page);
+        let open = |page: &Page| page.kind == 2 && page.class == class && !page.is_full();
         if !list_holds(&pages, record(class, bits::CLASS_FIRST, 16), open) {
             return 4;
         }
     }
     let class_pages = || pages.iter().filter(|page| page.kind == 2);
-    if class_pages().any(|page| full(page) && (page.next, page.previous) != (NONE, NONE)) {
+    if class_pages().any(|page| page.is_full() && (page.next, page.previous) != (NONE, NONE)) {
         return 4;
     }
 
-    let in_hands = |page: &Page| page.marks.iter().filter(|mark| **mark).count() - OWN[page.class];
-    if class_pages().any(|page| in_hands(page) == 0) {
+    if !class_pages_are_used(&pages) {
         return 5;
     }
 
@@ -105,7 +122,7 @@ pub fn broken_rule(bytes: &[u8]) -> u8 {
     }
     for (class, chunks) in CHUNKS.into_iter().enumerate() {
         let of_class = || class_pages().filter(|page| page.class == class);
-        if record(class, bits::USED, 24) != of_class().map(in_hands).sum::<usize>()
+        if record(class, bits::USED, 24) != of_class().map(Page::in_hands).sum::<usize>()
             || record(class, bits::TOTAL, 24) != of_class().count() * (chunks - OWN[class])
         {
             return 6;
@@ -144,9 +161,15 @@ pub fn converted(source: &[u8], target: &[u8]) -> Result<Vec<u8>, u8> {
     Ok(bytes)
 }
 
+/// Each class page has a chunk in a caller's hands.
+pub fn class_pages_are_used(pages: &[Page]) -> bool {
+    let mut class_pages = pages.iter().filter(|page| page.kind == 2);
+    class_pages.all(|page| page.in_hands() > 0)
+}
+
 /// Every page lies in exactly one run or is a class page, and no two free runs
 /// touch.
-fn pages_divide(pages: &[Page]) -> bool {
+pub fn pages_divide(pages: &[Page]) -> bool {
     let mut holders = vec![0; pages.len()];
     for (first, page) in pages.iter().enumerate() {
         let (length, inside) = match page.kind {
@@ -172,18 +195,9 @@ fn pages_divide(pages: &[Page]) -> bool {
     holders.iter().all(|holder| *holder == 1)
 }
 
-/// Every field but the links of kinds 1 and 2, once the pages divide.
-fn fields_are_as_described(pages: &[Page]) -> bool {
-    let last_of_run = |number: usize| {
-        let first = (0..number).rev().find(|first| pages[*first].kind == 1)?;
-        (first + pages[first].run == number + 1).then_some(first)
-    };
-    pages.iter().enumerate().all(|(number, page)| {
-        let back = match page.kind {
-            0 => last_of_run(number).unwrap_or(NONE),
-            _ => NONE,
-        };
-        let links = matches!(page.kind, 1 | 2) || (page.next, page.previous) == (NONE, back);
+/// Every field but links and zero bits, once the pages divide.
+pub fn fields_are_as_described(pages: &[Page]) -> bool {
+    pages.iter().all(|page| {
         let class = page.kind == 2 && page.class < 9 || page.class == 0;
         let run = matches!(page.kind, 1 | 3) || page.run == 0;
         let map = match page.kind {
@@ -196,13 +210,23 @@ fn fields_are_as_described(pages: &[Page]) -> bool {
             .iter()
             .zip(0..)
             .filter(|(_, chunk)| *chunk < OWN[page.class]);
-        page.kind < 5
-            && page.zeros == 0
-            && links
-            && class
-            && run
-            && map
-            && own.all(|(mark, _)| *mark)
+        page.kind < 5 && class && run && map && own.all(|(mark, _)| *mark)
+    })
+}
+
+/// Zero bits, and the links but those of kinds 1 and 2, once the pages divide.
+fn links_are_as_described(pages: &[Page]) -> bool {
+    let last_of_run = |number: usize| {
+        let first = (0..number).rev().find(|first| pages[*first].kind == 1)?;
+        (first + pages[first].run == number + 1).then_some(first)
+    };
+    pages.iter().enumerate().all(|(number, page)| {
+        let back = match page.kind {
+            0 => last_of_run(number).unwrap_or(NONE),
+            _ => NONE,
+        };
+        let links = matches!(page.kind, 1 | 2) || (page.next, page.previous) == (NONE, back);
+        page.zeros == 0 && links
     })
 }
 

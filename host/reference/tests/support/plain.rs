@@ -148,6 +148,12 @@ impl Plain {
         self.runs.insert(0, (first, whole));
     }
 
+    /// Puts all lists into rising page order, as mending leaves them.
+    pub fn mend(&mut self) {
+        self.runs.sort();
+        self.lists.iter_mut().for_each(|list| list.sort());
+    }
+
     /// Makes a pool of edition 1 one of edition 2.
     pub fn convert(&mut self) {
         self.edition = 2;
