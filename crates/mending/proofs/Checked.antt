@@ -1,7 +1,7 @@
 -- The checker says yes exactly when the copy is accepted.
 use mathlib.Core.Path.{_≡_, refl, sym, ap, _∙_, subst, fun-ext}
 use mathlib.Core.Logic.{_⊎_, inl, inr, _↔_}
-use mathlib.Core.Bool.{Bool, true, false}
+use mathlib.Core.Bool.{Bool, true, false, false≢true}
 use mathlib.Core.List.{List}
 use Prim.Native.Nat.{ℕ, suc, _+_, _-_, _*_, _/_, _≤_, _<_}
 use native.Mathlib.Omega.{arith}
@@ -13,9 +13,10 @@ use Rattle.base.proofs.AllBelow.{each-of, pick-yes, pick-no, all-at, at-all}
 use Rattle.words.specs.Word.{Bytes}
 use Rattle.records.specs.Layout.{pagesFrom, pageCount}
 use Rattle.records.specs.Page.{linksAt}
-use Rattle.answers.specs.Outcome.{Outcome, numberOf, granted, refused}
+use Rattle.answers.specs.Outcome.{Outcome, granted, refused}
 use Rattle.answers.specs.declared.Refusal.{Refusal}
-use Rattle.answers.specs.declared.Refusal.the-variants.{TooShort, TooLong, NotSound, NoRoom, Outside, NotTaken, NotAStart, Unreadable, ScriptTooLong, NothingAsked, AnswersTooShort, WrongLength, BeyondMending, OtherBlocks}
+use Rattle.answers.specs.declared.Refusal.the-variants.{NotSound, WrongLength, BeyondMending, OtherBlocks}
+use Rattle.answers.proofs.Refusals.{number-counts}
 use Rattle.model.specs.Classes.{chunks}
 use Rattle.model.specs.State.{Page}
 use Rattle.model.specs.Live.{Block, Live}
@@ -135,23 +136,7 @@ module _ (w : ℕ) (wide : 2 ≤ w) (narrow : w ≤ 255) (s : List ℕ) (B : Byt
 passes : (t : Bool) (x : Outcome) (r : Refusal) → pick t x (refused r) .number ≡ 0 → (t ≡ true) × (x .number ≡ 0)
 unfolding pick
 passes true x r e = (refl, e)
-passes false x r e = absurd (numbered r e)
-  where
-    numbered : (r : Refusal) → numberOf r ≡ 0 → ⊥
-    numbered TooShort e = omega arith
-    numbered TooLong e = omega arith
-    numbered NotSound e = omega arith
-    numbered NoRoom e = omega arith
-    numbered Outside e = omega arith
-    numbered NotTaken e = omega arith
-    numbered NotAStart e = omega arith
-    numbered Unreadable e = omega arith
-    numbered ScriptTooLong e = omega arith
-    numbered NothingAsked e = omega arith
-    numbered AnswersTooShort e = omega arith
-    numbered WrongLength e = omega arith
-    numbered BeyondMending e = omega arith
-    numbered OtherBlocks e = omega arith
+passes false x r e = absurd (false≢true (sym (number-counts r) ∙ eq-eqb _ _ e))
 
 -- a sound copy is granted or refused with 14
 either : (w : ℕ) (s t : List ℕ) → (compared w s t .number ≡ 0) ⊎ (compared w s t ≡ refused OtherBlocks)

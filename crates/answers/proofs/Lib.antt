@@ -1,0 +1,1 @@
+pub mod Refusals  -- a refusal's number
