@@ -2,11 +2,12 @@
  * Danumrikal: a slab allocator in a shared slice of bytes, for C99 and C++.
  *
  * A pool is a pointer and a length. `rt staticlib danumrikal` makes the archive
- * with the eight calls, target/staticlib/libdanumrikal.a; it needs no other
- * library.
+ * with the calls, target/staticlib/libdanumrikal.a; it needs no other library.
+ * Three of them act on a gauge, which smooths a pool's number of pages in use,
+ * all others on a pool.
  *
- * The eight calls are proved: whatever the bytes hold and whatever is passed,
- * each returns, stays inside the given bytes and answers. A refused call changes
+ * The calls are proved: whatever the bytes hold and whatever is passed, each
+ * returns, stays inside the given bytes and answers. A refused call changes
  * nothing, but that a chunk refused for room is counted in its class's asks and
  * failures. No call writes a block's bytes, but dnk_convert and dnk_mend in
  * their target. An offset at which no live block begins is never freed: a block
@@ -51,6 +52,7 @@ extern "C" {
 #define DNK_CLASSES 9          /* chunk sizes: class c has chunks of 8 << c bytes */
 #define DNK_MOST_PAGES 4096    /* pages of the largest pool */
 #define DNK_LARGEST_CHUNK 2048 /* blocks of more bytes are whole pages */
+#define DNK_GAUGE_ROUND 40     /* samples of a gauge, after which it restarts */
 
 /*
  * The records have two editions, which differ in their class records. The first
@@ -103,7 +105,8 @@ enum dnk_refusal {
     DNK_ANSWERS_TOO_SHORT = 11,
     DNK_WRONG_LENGTH = 12,
     DNK_BEYOND_MENDING = 13,
-    DNK_OTHER_BLOCKS = 14
+    DNK_OTHER_BLOCKS = 14,
+    DNK_OUT_OF_RANGE = 15
 };
 
 /*
@@ -210,6 +213,49 @@ dnk_answer dnk_check_mended(const uint8_t *damaged, size_t damaged_len, const ui
  */
 dnk_answer dnk_mend(const uint8_t *damaged, size_t damaged_len, uint8_t *target, size_t target_len);
 
+/*
+ * A gauge: a smoothed number of pages in use, and the level above which the
+ * panel trips. It is plain numbers, by value, which may be kept anywhere. Every
+ * call takes any, and refuses those that are not usable: more than
+ * DNK_GAUGE_ROUND samples, or a load or level that is no number from 0 to
+ * DNK_MOST_PAGES. -0.0 counts as 0 and is kept.
+ */
+struct dnk_gauge {
+    double load;
+    double level;
+    uint32_t samples; /* of the round so far */
+};
+
+/* What a call on a gauge answers, and the gauge afterwards. */
+struct dnk_gauge_reply {
+    dnk_answer answer;
+    struct dnk_gauge gauge;
+};
+
+/*
+ * A gauge at load 0 with this trip level; the value is 0. Refused:
+ *   DNK_OUT_OF_RANGE  the level is no number from 0 to DNK_MOST_PAGES; the
+ *                     gauge is all zero
+ */
+struct dnk_gauge_reply dnk_gauge_start(double level);
+
+/*
+ * Takes a sample, a count of pages in use: the load becomes half the old load
+ * plus half the count, and samples rises by one; the value is 0. A gauge with
+ * DNK_GAUGE_ROUND samples restarts at load 0 and no samples first. In a round
+ * that began at 0 the load is exact. Refused:
+ *   DNK_OUT_OF_RANGE  the count is above DNK_MOST_PAGES, or the gauge is not
+ *                     usable; it comes back as it was, bit for bit
+ */
+struct dnk_gauge_reply dnk_gauge_sample(struct dnk_gauge gauge, uint32_t count);
+
+/*
+ * Whether the panel trips: the value is 1 where the load is above the level,
+ * and 0 where it is not, as at the level itself. Refused:
+ *   DNK_OUT_OF_RANGE  the gauge is not usable
+ */
+dnk_answer dnk_gauge_trips(struct dnk_gauge gauge);
+
 /* The request to take a block of at least size bytes. */
 static inline dnk_request dnk_to_alloc(uint32_t size)
 {
@@ -252,6 +298,7 @@ static inline const char *dnk_refusal_name(enum dnk_refusal refusal)
     case DNK_WRONG_LENGTH: return "wrong length";
     case DNK_BEYOND_MENDING: return "beyond mending";
     case DNK_OTHER_BLOCKS: return "other blocks";
+    case DNK_OUT_OF_RANGE: return "out of range";
     }
     return "unknown";
 }
@@ -277,6 +324,20 @@ static inline uint32_t dnk_peak(const uint8_t *pool, unsigned c)
 {
     const uint8_t *peak = pool + DNK_HEADER + DNK_CLASS_RECORD(DNK_EDITION_2) * c + 16;
     return (uint32_t)peak[0] << 16 | (uint32_t)peak[1] << 8 | peak[2];
+}
+
+/*
+ * What a gauge samples: the value is the pages less the free ones, as the header
+ * says them. Refused:
+ *   DNK_NOT_SOUND    the records break a rule, so that the header may say
+ *                    anything
+ */
+static inline dnk_answer dnk_pages_in_use(const uint8_t *pool, size_t len)
+{
+    if (dnk_validate(pool, len) != 0) {
+        return (dnk_answer)DNK_NOT_SOUND << 56;
+    }
+    return (dnk_answer)((pool[2] << 8 | pool[3]) - (pool[4] << 8 | pool[5]));
 }
 
 #ifdef __cplusplus

@@ -58,6 +58,8 @@ pub enum Refusal {
     BeyondMending,
     // check_mended: a sound pool with other blocks or bytes
     OtherBlocks,
+    // a gauge, its level or a sample's count is no number of its range
+    OutOfRange,
 }
 
 // The refusal's number (SPEC 5).
@@ -79,5 +81,6 @@ pub fn number(r: Refusal) -> u8
         Refusal::WrongLength => 12,
         Refusal::BeyondMending => 13,
         Refusal::OtherBlocks => 14,
+        Refusal::OutOfRange => 15,
     }
 }

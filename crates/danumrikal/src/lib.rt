@@ -1,5 +1,7 @@
-// The calls for C and other languages: a pool is a pointer and a length, an answer one word.
+// The calls for C and other languages: a pool is a pointer and a length, a gauge a struct by value, an answer one word.
 use answers::Offset;
+use gauge::Gauge;
+use gauge_words::GaugeReply;
 ghost use mathlib.Core.Path.{_≡_};
 ghost use lib.ListN.{length};
 ghost use Rattle.model.specs.Calls.{Alloc, Free};
@@ -10,6 +12,7 @@ ghost use Rattle.answer_words.specs.Word.{wordOf};
 ghost use Rattle.convert.specs.Convert.{convertOutcome, converted};
 ghost use Rattle.batch.specs.Batch.{batchOutcome, batchPool, batchAnswers};
 ghost use Rattle.mending.specs.Checked.{checkOutcome, mendOutcome, mended};
+ghost use Rattle.gauge.specs.Gauge.{startOutcome, started, sampleOutcome, sampled, tripOutcome};
 
 // Makes a pool of an edition of a slice: the page count, or the refusal.
 #[no_mangle]
@@ -80,4 +83,30 @@ pub extern "C" fn dnk_mend(damaged: &[u8], target: &mut [u8]) -> u64
     ensures slice { λ _. ⌜ now (target .exit) ≡ mended (widthOf (now (damaged .entry))) (now (damaged .entry)) (now (target .entry)) ⌝ }
 {
     answer_words::formatted_word(pool::mend(damaged, target))
+}
+
+// A gauge with this trip level, or the refusal.
+#[no_mangle]
+pub extern "C" fn dnk_gauge_start(level: f64) -> GaugeReply
+    ensures answer { λ r. ⌜ r .answer ≡ wordOf (startOutcome level) ⌝ }
+    ensures gauge { λ r. ⌜ r .gauge ≡ started level ⌝ }
+{
+    gauge_words::gauged_reply(gauge_words::blank(), gauge::start(level))
+}
+
+// The gauge after one sample more, or the refusal and the gauge as it was.
+#[no_mangle]
+pub extern "C" fn dnk_gauge_sample(gauge: Gauge, count: u32) -> GaugeReply
+    ensures answer { λ r. ⌜ r .answer ≡ wordOf (sampleOutcome gauge count) ⌝ }
+    ensures gauge { λ r. ⌜ r .gauge ≡ sampled gauge count ⌝ }
+{
+    gauge_words::gauged_reply(gauge, gauge::sample(gauge, count))
+}
+
+// Whether the load is above the level, 1 or 0, or the refusal.
+#[no_mangle]
+pub extern "C" fn dnk_gauge_trips(gauge: Gauge) -> u64
+    ensures { λ r. ⌜ r ≡ wordOf (tripOutcome gauge) ⌝ }
+{
+    gauge_words::tripped_word(gauge::trips(gauge))
 }

@@ -1,7 +1,14 @@
 //! The exported functions. The proofs cover them for every pointer and length
 //! that make a slice, which is what the safe functions here pass.
 
-use crate::{Answer, Request};
+use crate::{Answer, Gauge, Request};
+
+/// What a call on a gauge answers, and the gauge afterwards.
+#[repr(C)]
+pub struct GaugeReply {
+    pub answer: u64,
+    pub gauge: Gauge,
+}
 
 extern "C" {
     fn dnk_format(pool: *mut u8, len: usize, edition: u8) -> u64;
@@ -25,6 +32,9 @@ extern "C" {
         mended_len: usize,
     ) -> u64;
     fn dnk_mend(damaged: *const u8, damaged_len: usize, target: *mut u8, target_len: usize) -> u64;
+    fn dnk_gauge_start(level: f64) -> GaugeReply;
+    fn dnk_gauge_sample(gauge: Gauge, count: u32) -> GaugeReply;
+    fn dnk_gauge_trips(gauge: Gauge) -> u64;
 }
 
 pub fn format(pool: &mut [u8], edition: u8) -> u64 {
@@ -99,4 +109,19 @@ pub fn mend(damaged: &[u8], target: &mut [u8]) -> u64 {
             target.len(),
         )
     }
+}
+
+pub fn gauge_start(level: f64) -> GaugeReply {
+    // SAFETY: a number by value; every one is taken.
+    unsafe { dnk_gauge_start(level) }
+}
+
+pub fn gauge_sample(gauge: Gauge, count: u32) -> GaugeReply {
+    // SAFETY: numbers by value; all are taken.
+    unsafe { dnk_gauge_sample(gauge, count) }
+}
+
+pub fn gauge_trips(gauge: Gauge) -> u64 {
+    // SAFETY: numbers by value; all are taken.
+    unsafe { dnk_gauge_trips(gauge) }
 }

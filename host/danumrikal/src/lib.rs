@@ -25,6 +25,9 @@
 //! [`Edition`]. Every call serves both, and [`convert`] leads from the first to
 //! the second.
 //!
+//! A [`Gauge`] smooths the number of pages in use, for a panel that trips above a
+//! level.
+//!
 //! What the host program keeps: the memory and its mapping, a lock where
 //! processes share a pool, so that nobody else writes any of it while its bytes
 //! are lent, which block is whose and how long, and that between calls nobody
@@ -39,6 +42,7 @@ mod batch;
 mod convert;
 mod edition;
 mod ffi;
+mod gauge;
 mod mend;
 mod pool;
 mod refusal;
@@ -47,8 +51,9 @@ mod rule;
 pub use batch::{Answer, Request};
 pub use convert::convert;
 pub use edition::Edition;
+pub use gauge::Gauge;
 pub use mend::{check_mended, mend};
-pub use pool::{check, peaks, Offset, Pool, CLASSES, MOST_PAGES, PAGE};
+pub use pool::{check, pages_in_use, peaks, Offset, Pool, CLASSES, MOST_PAGES, PAGE};
 pub use refusal::Refusal;
 pub use rule::Rule;
 

@@ -10,6 +10,10 @@ pub const MOST_PAGES: usize = 4_096;
 /// How many chunk sizes there are: 8, 16, 32 and so on up to 2,048 bytes.
 pub const CLASSES: usize = 9;
 
+/// Where the header has the page count and the free pages, 16 bits each.
+const PAGE_COUNT: usize = 2;
+const FREE_PAGES: usize = 4;
+
 /// Where a block begins, in bytes from the first page. It holds in every
 /// process, wherever the pool is mapped there. Any number may be tried: a free
 /// tells whether a block begins there.
@@ -84,6 +88,19 @@ pub fn peaks(bytes: &[u8]) -> Option<[u32; CLASSES]> {
         *peak = u32::from_be_bytes([0, third[0], third[1], third[2]]);
     }
     Some(peaks)
+}
+
+/// Pages less free pages: [`Pool::pages_in_use`] for bytes that are lent to be
+/// read alone.
+///
+/// # Errors
+///
+/// [`Refusal::NotSound`]: the records break a rule, so that the header may say
+/// anything.
+pub fn pages_in_use(bytes: &[u8]) -> Result<u32, Refusal> {
+    check(bytes).map_err(|_| Refusal::NotSound)?;
+    let field = |at| u32::from(u16::from_be_bytes([bytes[at], bytes[at + 1]]));
+    Ok(field(PAGE_COUNT) - field(FREE_PAGES))
 }
 
 /// A pool in lent bytes, whatever they hold: nothing has to be checked first.
@@ -173,6 +190,30 @@ impl<'a> Pool<'a> {
     /// The most chunks of each class that were in use at once: see [`peaks`].
     pub fn peaks(&self) -> Option<[u32; CLASSES]> {
         peaks(self.bytes)
+    }
+
+    /// Pages that hold a block, or a chunk of one: the pages less the free ones,
+    /// as the header says them.
+    ///
+    /// # Errors
+    ///
+    /// [`Refusal::NotSound`]: the records break a rule, so that the header may
+    /// say anything.
+    ///
+    /// ```
+    /// use danumrikal::{Edition, Pool, Refusal};
+    ///
+    /// let mut bytes = vec![0; Edition::One.length(12)];
+    /// let mut pool = Pool::new(&mut bytes);
+    /// assert_eq!(pool.pages_in_use(), Err(Refusal::NotSound)); // no pool yet
+    /// pool.format(Edition::One)?;
+    /// pool.alloc(30)?;
+    /// pool.alloc(5_000)?;
+    /// assert_eq!(pool.pages_in_use(), Ok(3));
+    /// # Ok::<(), Refusal>(())
+    /// ```
+    pub fn pages_in_use(&self) -> Result<u32, Refusal> {
+        pages_in_use(self.bytes)
     }
 
     /// Takes a block of at least `size` bytes.

@@ -43,9 +43,12 @@ pub enum Refusal {
     /// Check of a mended pool: the copy has other live blocks, or other bytes in
     /// the pages or behind them.
     OtherBlocks = 14,
+    /// Gauge: a count, load or level that is no number from 0 to 4,096, or more
+    /// than 40 samples.
+    OutOfRange = 15,
 }
 
-const ALL: [Refusal; 13] = [
+const ALL: [Refusal; 14] = [
     Refusal::TooShort,
     Refusal::TooLong,
     Refusal::NotSound,
@@ -59,6 +62,7 @@ const ALL: [Refusal; 13] = [
     Refusal::WrongLength,
     Refusal::BeyondMending,
     Refusal::OtherBlocks,
+    Refusal::OutOfRange,
 ];
 
 impl Refusal {
@@ -96,6 +100,7 @@ impl Refusal {
             Refusal::WrongLength => "wrong length",
             Refusal::BeyondMending => "beyond mending",
             Refusal::OtherBlocks => "other blocks",
+            Refusal::OutOfRange => "out of range",
         }
     }
 }

@@ -43,7 +43,8 @@ static void names(void)
     EXPECT(has_name(12, "wrong length"));
     EXPECT(has_name(13, "beyond mending"));
     EXPECT(has_name(14, "other blocks"));
-    EXPECT(has_name(15, "unknown"));
+    EXPECT(has_name(15, "out of range"));
+    EXPECT(has_name(16, "unknown"));
 }
 
 static void layouts(void)
@@ -118,6 +119,38 @@ static void batches(uint8_t edition)
     EXPECT(dnk_free(pool, len, 2048) == refused(DNK_NOT_SOUND));
     EXPECT(dnk_alloc(pool, len, 1) == refused(DNK_NOT_SOUND));
     EXPECT(dnk_alloc(pool, len, 0) == refused(DNK_NOT_SOUND));
+}
+
+/* A gauge by value, and what it samples. */
+static void gauges(uint8_t edition)
+{
+    /* A round and one sample more, trips above the level, what is refused comes back */
+    struct dnk_gauge_reply reply = dnk_gauge_start(-0.5);
+    EXPECT(reply.answer == refused(DNK_OUT_OF_RANGE));
+    EXPECT(reply.gauge.load == 0 && reply.gauge.level == 0 && reply.gauge.samples == 0);
+    reply = dnk_gauge_start(3);
+    EXPECT(reply.answer == 0 && reply.gauge.load == 0 && reply.gauge.level == 3 && reply.gauge.samples == 0);
+    for (uint32_t i = 1; i <= DNK_GAUGE_ROUND; i++) {
+        reply = dnk_gauge_sample(reply.gauge, 6);
+        EXPECT(reply.answer == 0 && reply.gauge.samples == i);
+        EXPECT(dnk_gauge_trips(reply.gauge) == (i > 1));
+    }
+    EXPECT(reply.gauge.load < 6);
+    reply = dnk_gauge_sample(reply.gauge, 6);
+    EXPECT(reply.answer == 0 && reply.gauge.load == 3 && reply.gauge.level == 3 && reply.gauge.samples == 1);
+    reply = dnk_gauge_sample(reply.gauge, DNK_MOST_PAGES + 1);
+    EXPECT(reply.answer == refused(DNK_OUT_OF_RANGE));
+    EXPECT(reply.gauge.load == 3 && reply.gauge.level == 3 && reply.gauge.samples == 1);
+    reply.gauge.samples = DNK_GAUGE_ROUND + 1;
+    EXPECT(dnk_gauge_trips(reply.gauge) == refused(DNK_OUT_OF_RANGE));
+    EXPECT(dnk_gauge_sample(reply.gauge, 0).gauge.samples == DNK_GAUGE_ROUND + 1);
+
+    pool[0] = 3; /* no edition */
+    EXPECT(dnk_pages_in_use(pool, DNK_SHORTEST(edition)) == refused(DNK_NOT_SOUND));
+    EXPECT(dnk_format(pool, DNK_LONGEST(edition), edition) == DNK_MOST_PAGES);
+    EXPECT(dnk_pages_in_use(pool, DNK_LONGEST(edition)) == 0);
+    EXPECT(dnk_alloc(pool, DNK_LONGEST(edition), DNK_MOST_PAGES * DNK_PAGE) == 0);
+    EXPECT(dnk_pages_in_use(pool, DNK_LONGEST(edition)) == DNK_MOST_PAGES);
 }
 
 /* Blocks of every class and of whole pages, at multiples of 8 from the pool's first byte. */
@@ -221,6 +254,7 @@ int main(void)
         batches(edition);
         alignment(edition);
         mended(edition);
+        gauges(edition);
     }
     peaks();
     return failed ? EXIT_FAILURE : EXIT_SUCCESS;

@@ -7,6 +7,7 @@ use std::process::Command;
 
 const NIGHT: &str = include_str!("../../../examples/night.stdout");
 const POWER_LOSS: &str = include_str!("../../../examples/power_loss.stdout");
+const PANEL: &str = include_str!("../../../examples/panel.stdout");
 const README: &str = include_str!("../../../README.md");
 
 /// As strictly as compilers can.
@@ -52,6 +53,16 @@ fn build_and_run(compiler: &[&str], source: &Path, name: &str) -> String {
 
 const C: [&str; 2] = ["cc", "-std=c99"];
 
+/// What an example in Rust prints.
+fn example(name: &str) -> String {
+    let mut cargo = Command::new(env!("CARGO"));
+    cargo.args(["run", "--quiet", "--offline", "--example", name]);
+    if !cfg!(debug_assertions) {
+        cargo.arg("--release"); // as this test was built, so that nothing is built twice
+    }
+    run(cargo.current_dir(env!("CARGO_MANIFEST_DIR")))
+}
+
 #[test]
 fn the_night_in_c() {
     let source = root().join("examples/night.c");
@@ -60,13 +71,18 @@ fn the_night_in_c() {
 
 #[test]
 fn the_night_in_rust() {
-    let mut cargo = Command::new(env!("CARGO"));
-    cargo.args(["run", "--quiet", "--offline", "--example", "night"]);
-    if !cfg!(debug_assertions) {
-        cargo.arg("--release"); // as this test was built, so that nothing is built twice
-    }
-    cargo.current_dir(env!("CARGO_MANIFEST_DIR"));
-    assert_eq!(run(&mut cargo), NIGHT);
+    assert_eq!(example("night"), NIGHT);
+}
+
+#[test]
+fn the_panel_in_c() {
+    let source = root().join("examples/panel.c");
+    assert_eq!(build_and_run(&C, &source, "panel"), PANEL);
+}
+
+#[test]
+fn the_panel_in_rust() {
+    assert_eq!(example("panel"), PANEL);
 }
 
 #[test]

@@ -22,6 +22,7 @@ fn refusals_have_the_second_programs_numbers_and_names() {
         (Refusal::WrongLength, reference::Refusal::WrongLength),
         (Refusal::BeyondMending, reference::Refusal::BeyondMending),
         (Refusal::OtherBlocks, reference::Refusal::OtherBlocks),
+        (Refusal::OutOfRange, reference::Refusal::OutOfRange),
     ];
     for (ours, theirs) in refusals {
         assert_eq!(ours.number(), theirs.number());

@@ -12,6 +12,7 @@
 //! - [`view`] predicts, from calls and answers alone, what a pool must show.
 //! - [`script`] serves a text of takes and gives.
 //! - [`mod@report`] prints what the image of a pool holds.
+//! - [`gauge`] smooths the number of pages in use, by exact fractions.
 
 #![forbid(unsafe_code)]
 #![warn(missing_docs)]
@@ -19,6 +20,7 @@
 pub mod batch;
 pub mod class;
 pub mod convert;
+pub mod gauge;
 pub mod layout;
 pub mod mend;
 pub mod pool;
@@ -31,6 +33,7 @@ pub mod view;
 pub use batch::batch;
 pub use class::{need, Class, Need, CLASSES};
 pub use convert::convert;
+pub use gauge::Gauge;
 pub use layout::{Edition, Layout};
 pub use mend::{check_mended, mend};
 pub use pool::{alloc, alloc_sound, format, free, free_sound};

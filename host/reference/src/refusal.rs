@@ -1,4 +1,4 @@
-//! The fourteen ways a call or a script line is refused.
+//! The ways a call or a script line is refused.
 
 use std::fmt;
 
@@ -39,6 +39,9 @@ pub enum Refusal {
     /// Check of a mended pool: the copy is sound, but has other live blocks,
     /// page bytes or tail.
     OtherBlocks,
+    /// Gauge: a count, load or level that is no number from 0 to 4,096, or more
+    /// than 40 samples.
+    OutOfRange,
 }
 
 impl Refusal {
@@ -59,6 +62,7 @@ impl Refusal {
             Refusal::WrongLength => 12,
             Refusal::BeyondMending => 13,
             Refusal::OtherBlocks => 14,
+            Refusal::OutOfRange => 15,
         }
     }
 }
@@ -80,6 +84,7 @@ impl fmt::Display for Refusal {
             Refusal::WrongLength => "wrong length",
             Refusal::BeyondMending => "beyond mending",
             Refusal::OtherBlocks => "other blocks",
+            Refusal::OutOfRange => "out of range",
         })
     }
 }

@@ -824,6 +824,7 @@ fn refusal_numbers() {
         (10, Refusal::NothingAsked, "nothing asked"),
         (11, Refusal::AnswersTooShort, "answers too short"),
         (12, Refusal::WrongLength, "wrong length"),
+        (15, Refusal::OutOfRange, "out of range"),
     ];
     for (number, refusal, name) in refusals {
         assert_eq!(refusal.number(), number);
