@@ -1,15 +1,16 @@
 -- Alloc on sound records, in the bytes of a pool of P pages: what is answered and what is left, in the order of the code.
 use Prim.Native.Nat.{ℕ, _+_, _*_, _%_}
 use mathlib.Core.List.{List}
-use lib.Dec.{eqb, leb}
+use lib.Dec.{eqb, leb, ltb}
 use Rattle.base.specs.Tests.{pick}
 use Rattle.records.specs.Layout.{noPage}
 use Rattle.answers.specs.Outcome.{Outcome, granted, refused}
 use Rattle.answers.specs.declared.Refusal.the-variants.{NoRoom, NothingAsked}
-use Rattle.model.specs.Classes.{chunk, chunks, own, pagesFor}
+use Rattle.model.specs.Classes.{chunk, own, pagesFor}
 use Rattle.maps.specs.Mirror.{lowestClear}
 use Rattle.lists.specs.Mirror.{firstOf}
 use Rattle.rules.specs.Bytes.{mapBase}
+use Rattle.map_count.specs.Mirror.{mapBits}
 use Rattle.run_extents.specs.Mirror.{fitIn, runTaken}
 use Rattle.classes.specs.Mirror.{chunkRefused}
 use Rattle.class_peaks.specs.Mirror.{peakRaised}
@@ -20,7 +21,7 @@ use Rattle.sizes.specs.Mirror.{classFor}
 
 -- of page p
 unfoldable pub lowestOn : (w : ℕ) (s : List ℕ) (P c p : ℕ) → ℕ
-lowestOn w s P c p = lowestClear s (mapBase w P p c) (chunks c)
+lowestOn w s P c p = lowestClear s (mapBase w P p c) (mapBits c)
 
 unfoldable pub chunkOutcome : (w : ℕ) (s : List ℕ) (P c p : ℕ) → Outcome
 chunkOutcome w s P c p = granted (4096 * p + chunk c * lowestOn w s P c p)
@@ -44,12 +45,12 @@ newOutcome w s P c = cutOutcome c (fitIn w s P 1)
 unfoldable pub newSlice : (w : ℕ) (s : List ℕ) (P c : ℕ) → List ℕ
 newSlice w s P c = cutSlice w s P c (fitIn w s P 1)
 
--- of the class list's first page p, or a new one where there is none
+-- of the class list's first page p, or a new one where that is none of the pages
 unfoldable pub fromOutcome : (w : ℕ) (s : List ℕ) (P c p : ℕ) → Outcome
-fromOutcome w s P c p = pick (eqb p noPage) (newOutcome w s P c) (chunkOutcome w s P c p)
+fromOutcome w s P c p = pick (ltb p P) (chunkOutcome w s P c p) (newOutcome w s P c)
 
 unfoldable pub fromSlice : (w : ℕ) (s : List ℕ) (P c p : ℕ) → List ℕ
-fromSlice w s P c p = pick (eqb p noPage) (newSlice w s P c) (chunkSlice w s P c p)
+fromSlice w s P c p = pick (ltb p P) (chunkSlice w s P c p) (newSlice w s P c)
 
 unfoldable pub classOutcome : (w : ℕ) (s : List ℕ) (P c : ℕ) → Outcome
 classOutcome w s P c = fromOutcome w s P c (firstOf w s (1 + c))

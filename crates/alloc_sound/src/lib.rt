@@ -8,18 +8,19 @@ use records::NO_PAGE;
 use records::PAGE;
 use records::PageNumber;
 ghost use mathlib.Core.Path.{_≡_};
-ghost use Prim.Native.Nat.{_*_, _%_, _≤_};
+ghost use Prim.Native.Nat.{_*_, _%_, _≤_, _<_};
 ghost use Rattle.answers.specs.Outcome.{granted, refused, ofAlloc};
 ghost use Rattle.answers.specs.declared.Refusal.the-variants.{NoRoom};
 ghost use Rattle.model.specs.Classes.{pagesFor};
 ghost use Rattle.sizes.specs.Mirror.{classFor};
 ghost use Rattle.run_extents.specs.Mirror.{runTaken};
-ghost use Rattle.classes.specs.Mirror.{chunkRefused};
+ghost use Rattle.classes.specs.Mirror.{Whole, chunkRefused};
 ghost use Rattle.chunks.specs.Mirror.{pageCut};
 ghost use Rattle.alloc_sound.specs.Mirror.{chunkOutcome, chunkSlice, firstOutcome, cutOutcome, cutSlice, newOutcome, newSlice, fromOutcome, fromSlice, classOutcome, classSlice, smallSlice, runOutcome, runSlice, pagesOutcome, pagesSlice, allocOutcome, allocSlice};
 
 // Takes a block of at least `size` bytes (SPEC 4.4).
 pub fn alloc_sound(pool: &mut [u8], w: u8, pages: u16, size: u32) -> Allocated
+    requires { ⌜ Whole w (now pool) pages ⌝ }
     ensures answer { λ r. ⌜ ofAlloc r ≡ allocOutcome w (now (pool .entry)) pages size ⌝ }
     ensures slice { λ _. ⌜ now (pool .exit) ≡ allocSlice w (now (pool .entry)) pages size ⌝ }
 {
@@ -36,7 +37,7 @@ pub fn alloc_sound(pool: &mut [u8], w: u8, pages: u16, size: u32) -> Allocated
 // ---- a chunk
 
 fn alloc_small(pool: &mut [u8], w: u8, pages: u16, size: u32) -> Allocated
-    requires { ⌜ size ≤ 2048 ⌝ }
+    requires { ⌜ (1 ≤ size) × (size ≤ 2048) × Whole w (now pool) pages ⌝ }
     ensures answer { λ r. ⌜ ofAlloc r ≡ classOutcome w (now (pool .entry)) pages (classFor size) ⌝ }
     ensures slice { λ _. ⌜ now (pool .exit) ≡ smallSlice w (now (pool .entry)) pages (classFor size) ⌝ }
 {
@@ -47,30 +48,31 @@ fn alloc_small(pool: &mut [u8], w: u8, pages: u16, size: u32) -> Allocated
 }
 
 fn chunk_of_class(pool: &mut [u8], w: u8, pages: u16, c: u8) -> Allocated
-    requires { ⌜ c ≤ 8 ⌝ }
+    requires { ⌜ (c ≤ 8) × Whole w (now pool) pages ⌝ }
     ensures answer { λ r. ⌜ ofAlloc r ≡ classOutcome w (now (pool .entry)) pages c ⌝ }
     ensures slice { λ _. ⌜ now (pool .exit) ≡ classSlice w (now (pool .entry)) pages c ⌝ }
 {
-    let p = list_heads::first(pool, w, 1 + c);
+    let p = record_class::get_first_in(pool, w, c);
     chunk_from(pool, w, pages, c, p)
 }
 
-// Of page p, the first on the class list, or of a new page where the list is empty.
+// Of page p, the first on the class list, or of a new page where the list is empty. The test is against the page count, which says
+// both that there is a page and that its record is whole.
 fn chunk_from(pool: &mut [u8], w: u8, pages: u16, c: u8, p: PageNumber) -> Allocated
-    requires { ⌜ c ≤ 8 ⌝ }
+    requires { ⌜ (c ≤ 8) × Whole w (now pool) pages ⌝ }
     ensures answer { λ r. ⌜ ofAlloc r ≡ fromOutcome w (now (pool .entry)) pages c (p .0) ⌝ }
     ensures slice { λ _. ⌜ now (pool .exit) ≡ fromSlice w (now (pool .entry)) pages c (p .0) ⌝ }
 {
-    if p.0 == NO_PAGE {
-        new_page(pool, w, pages, c)
-    } else {
+    if p.0 < pages {
         chunk_of_page(pool, w, pages, c, p)
+    } else {
+        new_page(pool, w, pages, c)
     }
 }
 
 // The lowest free chunk of page p.
 fn chunk_of_page(pool: &mut [u8], w: u8, pages: u16, c: u8, p: PageNumber) -> Allocated
-    requires { ⌜ c ≤ 8 ⌝ }
+    requires { ⌜ (c ≤ 8) × (p .0 < pages) × Whole w (now pool) pages ⌝ }
     ensures answer { λ r. ⌜ ofAlloc r ≡ chunkOutcome w (now (pool .entry)) pages c (p .0) ⌝ }
     ensures slice { λ _. ⌜ now (pool .exit) ≡ chunkSlice w (now (pool .entry)) pages c (p .0) ⌝ }
 {

@@ -1,5 +1,5 @@
 -- One request on validated records: what the code does is what the definitions say, and the records stay sound.
-use mathlib.Core.Path.{_≡_, refl, sym, ap, _∙_}
+use mathlib.Core.Path.{_≡_, refl, sym, ap, _∙_, subst}
 use mathlib.Core.Logic.{_≢_}
 use mathlib.Core.Bool.{Bool, true, false, not}
 use mathlib.Core.List.{List}
@@ -17,11 +17,13 @@ use Rattle.answers.specs.declared.Refusal.the-variants.{Unreadable}
 use Rattle.answer_words.specs.Word.{wordOf}
 use Rattle.model.specs.Calls.{Call, Alloc, Free}
 use Rattle.rules.specs.Bytes.{pagesIn, brokenRule}
+use Rattle.classes.specs.Mirror.{Whole}
 use Rattle.alloc_sound.specs.Mirror.{allocOutcome, allocSlice}
 use Rattle.free_sound.specs.Mirror.{freeOutcome, freeSlice}
 use Rattle.demands.specs.Calls.{answered, after}
 use Rattle.demands.proofs.Calls.{demand1, demand2}
 use Rattle.demands.proofs.Facts.{few}
+use Rattle.demands.proofs.Facts as facts
 use Rattle.demands.proofs.Steps.{alloc-met, free-met}
 use Rattle.batch.specs.Batch.{callIn, outcomeOn, sliceOn, replyTo, leftBy}
 use Rattle.batch.specs.Mirror.{Validated}
@@ -47,6 +49,9 @@ module _ (w : ℕ) (s : List ℕ) (t : Bool) (e : t ≡ eqb (brokenRule w s) 0) 
 -- ---- a call
 
 module _ {w : ℕ} {s : List ℕ} {pages : ℕ} (G : Validated w s pages) where
+  pub whole : Whole w s pages
+  whole = subst (Whole w s) (sym (G .counted)) (facts.whole w (G .wide) (G .narrow) s (G .bytes) (G .sound))
+
   module _ {word : ℕ} {o : Outcome} {u : List ℕ} (r : word ≡ wordOf o) where
     pub alloc-served : (size : ℕ) → o ≡ allocOutcome w s pages size → u ≡ allocSlice w s pages size →
         (word ≡ wordOf (answered w s (Alloc size))) × (u ≡ after w s (Alloc size))

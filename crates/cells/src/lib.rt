@@ -23,12 +23,20 @@ pub fn get_word(s: &[u8], k: usize) -> u64
     }
 }
 
-// Sets word k of s; past the last whole word it does nothing.
+// Sets word k of s, where the caller knows that it is whole.
+pub fn put_word_in(s: &mut [u8], k: usize, v: u64)
+    requires { ⌜ k < length (now s) / 8 ⌝ }
+    ensures { λ _. ⌜ now (s .exit) ≡ setWord (now (s .entry)) k v ⌝ }
+{
+    words::put64(s, 8 * k, v);
+}
+
+// The same for any k; past the last whole word it does nothing.
 pub fn put_word(s: &mut [u8], k: usize, v: u64)
     ensures { λ _. ⌜ now (s .exit) ≡ setWord (now (s .entry)) k v ⌝ }
 {
     if k < s.len() / 8 {
-        words::put64(s, 8 * k, v);
+        put_word_in(s, k, v);
     }
 }
 

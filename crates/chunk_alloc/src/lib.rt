@@ -2,64 +2,92 @@
 // `w` is the number of words of a class record, `pages` the pages of the pool.
 use records::PageNumber;
 ghost use mathlib.Core.Path.{_≡_};
-ghost use Prim.Native.Nat.{_≤_, _<_};
+ghost use Prim.Native.Nat.{_+_, _*_, _/_, _%_, _≤_, _<_};
+ghost use mathlib.Core.Bool.{true};
+ghost use lib.ListN.{length};
+ghost use Rattle.records.specs.Layout.{tallyPlace};
+ghost use Rattle.maps.specs.Bitmap.{withMark};
 ghost use Rattle.maps.specs.Mirror.{lowestClear};
-ghost use Rattle.model.specs.Classes.{chunks};
 ghost use Rattle.rules.specs.Bytes.{mapBase};
-ghost use Rattle.chunks.specs.Mirror.{chunkTaken, newMapAt, pageCut};
+ghost use Rattle.map_count.specs.Mirror.{mapBits};
+ghost use Rattle.classes.specs.Mirror.{Whole, countUsed};
+ghost use Rattle.chunks.specs.Mirror.{setAside, takenAt, chunkTaken, newMapAt, pageCut};
 
-// The lowest free chunk of page p, or the number of its chunks where there is none.
-fn free_chunk_of(pool: &[u8], w: u8, pages: u16, c: u8, p: PageNumber) -> u16
-    ensures { λ r. ⌜ r ≡ lowestClear (now (pool .entry)) (mapBase w pages (p .0) c) (chunks c) ⌝ }
-{
-    map_search::lowest_clear(
-        pool,
-        map_places::map_base(w, pages, p, c),
-        classes::chunk_count(c),
-    )
-}
-
-// Chunk i of page p, the first on the list of class c, is handed out. Where the map lies is asked once.
-fn take_chunk(pool: &mut [u8], w: u8, pages: u16, c: u8, p: PageNumber, i: u16)
-    ensures { λ _. ⌜ now (pool .exit) ≡ chunkTaken w (now (pool .entry)) pages c (p .0) i ⌝ }
+// Hands out the lowest free chunk of page p, the first on the list of class c, and answers its number. Where the map lies is asked once.
+pub fn alloc_chunk(pool: &mut [u8], w: u8, pages: u16, c: u8, p: PageNumber) -> u16
+    requires { ⌜ (c ≤ 8) × (p .0 < pages) × Whole w (now pool) pages ⌝ }
+    ensures answer { λ r. ⌜ r ≡ lowestClear (now (pool .entry)) (mapBase w pages (p .0) c) (mapBits c) ⌝ }
+    ensures slice { λ r. ⌜ now (pool .exit) ≡ chunkTaken w (now (pool .entry)) pages c (p .0) r ⌝ }
 {
     if c < 3 {
-        take_paged(pool, w, pages, c, p, i);
+        alloc_paged(pool, w, pages, c, p)
     } else {
-        take_recorded(pool, w, pages, c, p, i);
+        alloc_recorded(pool, w, pages, c, p)
     }
 }
 
-fn take_paged(pool: &mut [u8], w: u8, pages: u16, c: u8, p: PageNumber, i: u16)
-    requires { ⌜ c < 3 ⌝ }
-    ensures { λ _. ⌜ now (pool .exit) ≡ chunkTaken w (now (pool .entry)) pages c (p .0) i ⌝ }
-{
-    let k = map_places::paged_word(w, pages, p, c);
-    let last = map_occupancy::last_free_paged(pool, k, c, i);
-    class_lists::leave_if_full(pool, w, c, p, last);
-    map_marks::set_mark(pool, 8 * k as u32, i);
-    class_counting::count_used(pool, w, c);
-}
-
-fn take_recorded(pool: &mut [u8], w: u8, pages: u16, c: u8, p: PageNumber, i: u16)
-    requires { ⌜ 3 ≤ c ⌝ }
-    ensures { λ _. ⌜ now (pool .exit) ≡ chunkTaken w (now (pool .entry)) pages c (p .0) i ⌝ }
-{
-    let k = map_places::recorded_word(w, pages, p, c);
-    let last = map_occupancy::last_free_recorded(pool, k, c, i);
-    class_lists::leave_if_full(pool, w, c, p, last);
-    map_marks::set_mark(pool, 8 * k as u32, i);
-    class_counting::count_used(pool, w, c);
-}
-
-// Hands out the lowest free chunk of page p, the first on the list of class c, and answers its number.
-pub fn alloc_chunk(pool: &mut [u8], w: u8, pages: u16, c: u8, p: PageNumber) -> u16
-    ensures answer { λ r. ⌜ r ≡ lowestClear (now (pool .entry)) (mapBase w pages (p .0) c) (chunks c) ⌝ }
+// Where the map lies in the page.
+fn alloc_paged(pool: &mut [u8], w: u8, pages: u16, c: u8, p: PageNumber) -> u16
+    requires { ⌜ (c < 3) × (p .0 < pages) × Whole w (now pool) pages ⌝ }
+    ensures answer { λ r. ⌜ r ≡ lowestClear (now (pool .entry)) (mapBase w pages (p .0) c) (mapBits c) ⌝ }
     ensures slice { λ r. ⌜ now (pool .exit) ≡ chunkTaken w (now (pool .entry)) pages c (p .0) r ⌝ }
 {
-    let i = free_chunk_of(pool, w, pages, c, p);
-    take_chunk(pool, w, pages, c, p, i);
+    let k = map_places::paged_word(w, pages, p, c);
+    let i = map_search::lowest_clear(pool, k, map_occupancy::word_count(c));
+    take_paged(pool, w, c, p, k, i);
     i
+}
+
+// Where it lies in the record.
+fn alloc_recorded(pool: &mut [u8], w: u8, pages: u16, c: u8, p: PageNumber) -> u16
+    requires { ⌜ (3 ≤ c) × (c ≤ 8) × (p .0 < pages) × Whole w (now pool) pages ⌝ }
+    ensures answer { λ r. ⌜ r ≡ lowestClear (now (pool .entry)) (mapBase w pages (p .0) c) (mapBits c) ⌝ }
+    ensures slice { λ r. ⌜ now (pool .exit) ≡ chunkTaken w (now (pool .entry)) pages c (p .0) r ⌝ }
+{
+    let k = map_places::recorded_word(w, pages, p, c);
+    let i = map_search::lowest_in(pool, k);
+    take_recorded(pool, w, c, p, k, i);
+    i
+}
+
+// Chunk i of page p, the first on the list of class c, is handed out; its map begins with word k.
+fn take_paged(pool: &mut [u8], w: u8, c: u8, p: PageNumber, k: usize, i: u16)
+    requires { ⌜ (c < 3) × (k < 67108864) × (k + i / 64 < length (now pool) / 8) × (tallyPlace w c < length (now pool) / 8) ⌝ }
+    ensures { λ _. ⌜ now (pool .exit) ≡ takenAt w (now (pool .entry)) c (p .0) k i ⌝ }
+{
+    if map_occupancy::last_free_paged(pool, k, c, i) {
+        take_last(pool, w, c, p, k + (i / 64) as usize, i);
+    } else {
+        take(pool, w, c, k + (i / 64) as usize, i);
+    }
+}
+
+fn take_recorded(pool: &mut [u8], w: u8, c: u8, p: PageNumber, k: usize, i: u16)
+    requires { ⌜ (3 ≤ c) × (k < length (now pool) / 8) × (tallyPlace w c < length (now pool) / 8) ⌝ }
+    ensures { λ _. ⌜ now (pool .exit) ≡ takenAt w (now (pool .entry)) c (p .0) k i ⌝ }
+{
+    if map_occupancy::last_free_recorded(pool, k, c, i) {
+        take_last(pool, w, c, p, k, i);
+    } else {
+        take(pool, w, c, k, i);
+    }
+}
+
+// The last free chunk of page p, which leaves the list; word k has the mark.
+fn take_last(pool: &mut [u8], w: u8, c: u8, p: PageNumber, k: usize, i: u16)
+    requires { ⌜ (k < length (now pool) / 8) × (tallyPlace w c < length (now pool) / 8) ⌝ }
+    ensures { λ _. ⌜ now (pool .exit) ≡ withMark (countUsed w (setAside w (now (pool .entry)) c (p .0)) c) (8 * k) (i % 64) true ⌝ }
+{
+    class_lists::set_aside(pool, w, c, p);
+    take(pool, w, c, k, i);
+}
+
+fn take(pool: &mut [u8], w: u8, c: u8, k: usize, i: u16)
+    requires { ⌜ (k < length (now pool) / 8) × (tallyPlace w c < length (now pool) / 8) ⌝ }
+    ensures { λ _. ⌜ now (pool .exit) ≡ withMark (countUsed w (now (pool .entry)) c) (8 * k) (i % 64) true ⌝ }
+{
+    class_counting::count_used(pool, w, c);
+    map_marks::set_mark_in(pool, k, i);
 }
 
 // Writes the whole map of page p, which is new: the map's own chunks and the first after them are taken.

@@ -46,7 +46,7 @@ use Rattle.run_neighbours.specs.Mirror.{pagesReleased}
 use Rattle.classes.proofs.Numbers.{own-past}
 use Rattle.classes.specs.Mirror.{mapWord, pageBack, countPageBack}
 use Rattle.map_occupancy.specs.Mirror.{lastTaken}
-use Rattle.chunks.specs.Mirror.{delisted, pageDropped, chunkFreed}
+use Rattle.chunks.specs.Mirror.{delisted, pageDropped, freedAt, chunkFreed}
 use Rattle.drawing.specs.Draw.{mapHas, mapByte, mapped, draw}
 use Rattle.drawing.proofs.Mapped.{length-mapped, mapped-map, mapped-is}
 use Rattle.drawing.proofs.Drawn.{map-small}
@@ -212,7 +212,7 @@ module _ {w : ℕ} {s : List ℕ} {m : State} {p c : ℕ} {k : ℕ → Bool} (H 
       ∙ ap (paint w P (stateImage n)) maps-stay))
 
   pub page-dropped : chunkFreed w (draw w s m) P c p i ≡ draw w (withMark (draw w s m) (mapBase w P p c) i false) (dropPage m p c k)
-  unfolding chunkFreed pageDropped countPageBack pick
+  unfolding chunkFreed freedAt pageDropped countPageBack pick
   page-dropped =
       let F = midway-fits m n W Wn refl few in
       let z : withMark (pagesReleased w (delisted w (draw w s m) c p) P p 1) (mapBase w P p c) i false ≡ paint w P (setMap (midway m n) p (mapOf (slab c k′))) (mapped w m₁ s) =

@@ -32,7 +32,8 @@ use Rattle.shows.proofs.Shows.{state-shows, not-start, not-listed}
 use Rattle.run_laws.proofs.Shown.{state-scene}
 use Rattle.classes.specs.Mirror.{mapWord, chunkBorrowed, countBack}
 use Rattle.map_occupancy.specs.Mirror.{isFull}
-use Rattle.chunks.specs.Mirror.{classLinks, fullReturns, chunkKept, chunkFreed}
+use Rattle.map_occupancy.proofs.Words.{bit-own}
+use Rattle.chunks.specs.Mirror.{classLinks, fullReturns, keptAt, freedAt, chunkFreed}
 use Rattle.drawing.specs.Draw.{mapped, draw}
 use Rattle.chunk_laws.specs.Midway.{midway}
 use Rattle.chunk_laws.proofs.Counts.{used-bump}
@@ -135,8 +136,8 @@ module _ {w : ℕ} {s : List ℕ} {m : State} {p c : ℕ} {k : ℕ → Bool} (H 
           closed d (inr e) = open-other c d k e
 
   pub chunk-kept : chunkFreed w (draw w s m) P c p i ≡ draw w s (keepPage m p c k i)
-  unfolding chunkFreed chunkKept countBack keepPage pick
+  unfolding chunkFreed freedAt keptAt countBack keepPage pick
   chunk-kept =
-      rw (remarked.last-taken-told H i in-use in-range set ∙ ap not stay)
+      rw (remarked.last-taken-told H i in-use in-range set ∙ ap not stay, remarked.base H, bit-own c i in-range)
       (remarked.remarked-drawn H i false in-range l (m .tally) Wn chunkBorrowed own-record (λ d e. refl) _
       (⊎-elim stays returns (bool? (hasClear c k))))

@@ -11,8 +11,8 @@ use Rattle.model.specs.WellFormed.{WellFormed}
 use Rattle.rules.specs.Bytes.{pagesIn}
 use Rattle.chunk_laws.specs.Claim.{Laws, Claims}
 use Rattle.chunk_laws.proofs.Refused.{chunk-refused}
-use Rattle.chunk_laws.proofs.Remarked.{Here, lowest-found}
-use Rattle.chunk_laws.proofs.Taken.{chunk-taken}
+use Rattle.chunk_laws.proofs.Remarked.{Here}
+use Rattle.chunk_laws.proofs.Taken.{lowest-found, chunk-taken}
 use Rattle.chunk_laws.proofs.Cut.{page-cut}
 use Rattle.chunk_laws.proofs.Kept.{chunk-kept}
 use Rattle.chunk_laws.proofs.Dropped.{page-dropped}
@@ -27,7 +27,7 @@ module _ (w : ℕ) (wide : 2 ≤ w) (narrow : w ≤ 255) (s : List ℕ) (B : Byt
   laws : Laws w s m
   laws = record {
     refused = chunk-refused w wide s m W few room;
-    lowest-found = λ p c k is. lowest-found (here is);
+    lowest-found = λ p c k rest is on. lowest-found (here is) rest on;
     taken = λ p c k rest is on. chunk-taken (here is) rest on;
     cut = λ c r ok empty found. page-cut w wide narrow s B m W few room c ok empty r found;
     kept = λ p c k i is a b set stay. chunk-kept (here is) i a b set stay;

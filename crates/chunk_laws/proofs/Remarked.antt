@@ -20,19 +20,20 @@ use Rattle.records.specs.Layout.{noPage}
 use Rattle.records.specs.declared.Links.{Links}
 use Rattle.records.specs.declared.ClassRecord.{ClassRecord}
 use Rattle.records.specs.Class.{classAt, withClass}
+use Rattle.records.specs.Fits.{ClassFits}
 use Rattle.records.specs.Mirror.{firstTo}
 use Rattle.model.specs.Classes.{chunks, own, lowest, hasClear, hasTaken}
 use Rattle.model.specs.State.{Page, slab, Run, Tally, State}
 use Rattle.model.specs.View.{usedOn, usedOf, shown}
 use Rattle.model.specs.WellFormed.{ClassOk, WellFormed}
-use Rattle.model.proofs.Classes.{large-chunks}
+use Rattle.model.proofs.Classes.{large-chunks, lowest-clear}
 use Rattle.model.proofs.Table.{in-table, slab-ok}
 use Rattle.model.proofs.Lists.{open-is}
 use Rattle.maps.specs.Bitmap.{mark, withMark}
 use Rattle.maps.specs.Mirror.{lowestClear}
 use Rattle.image.specs.Image.{Image, paint}
-use Rattle.image.specs.Update.{setMap}
-use Rattle.image.proofs.Fits.{Fits}
+use Rattle.image.specs.Update.{setClass, setMap}
+use Rattle.image.proofs.Fits.{Fits, fits-class}
 use Rattle.image.proofs.Paint.{links-shown, length-paint}
 use Rattle.lists.specs.Mirror.{between}
 use Rattle.lists.specs.Nodes.{prevOf, unlink}
@@ -55,11 +56,12 @@ use Rattle.drawing.specs.Draw.{inMap, mappedByte, mapped, draw}
 use Rattle.drawing.proofs.Mapped.{length-mapped, mapped-keeps}
 use Rattle.drawing.proofs.Records.{paint-keeps}
 use Rattle.drawing.proofs.Drawn.{map-small}
-use Rattle.base.proofs.Search.{least-ext}
+use Rattle.base.specs.Search.{least}
+use Rattle.base.proofs.Search.{least-spec, least-is}
 use Rattle.chunk_laws.proofs.Counts.{used-frame, total-frame, free-frame, used-none}
 use Rattle.chunk_laws.specs.Midway.{midway}
 use Rattle.chunk_laws.proofs.Maps.{marks-shown, mark-drawn}
-use Rattle.chunk_laws.proofs.Next.{fits-map, map-frame, class-drawn, midway-fits, shown-midway, class-same, counts-drawn}
+use Rattle.chunk_laws.proofs.Next.{map-frame, class-drawn, midway-fits, shown-midway, class-same, counts-drawn}
 use Rattle.chunk_laws.proofs.Lists.{left-shows}
 
 -- ---- marks are no part of what a page's links show
@@ -129,16 +131,24 @@ module _ {w : ℕ} {s : List ℕ} {m : State} {p c : ℕ} {k : ℕ → Bool} (H 
       maps : (q : ℕ) → q < P → stateImage m .map q < 18446744073709551616
       maps q l = unfold stateImage in map-small (m .page q)
 
-  pub lowest-found : lowestClear (draw w s m) (mapBase w P p c) (chunks c) ≡ lowest c k
+  -- where there is a free chunk, the bits of a map past its chunks do not matter
+  pub lowest-found : hasClear c k ≡ true → lowestClear (draw w s m) (mapBase w P p c) (mapBits c) ≡ lowest c k
   unfolding lowestClear lowest draw
-  lowest-found = least-ext _ (λ i. not (k i)) (chunks c) (λ i l. ap not (shown-mark i (within i l (lt? c 3))))
+  lowest-found some =
+      let L = least-spec (λ i. not (k i)) (chunks c) in
+      let l : least (λ i. not (k i)) (chunks c) < chunks c = lowest-clear c k some .0 in
+      least-is _ (mapBits c) (least (λ i. not (k i)) (chunks c)) (record {
+        at-most = omega (arith, within _ l (lt? c 3));
+        before = λ j h. ap not (shown-mark j (within j (omega arith) (lt? c 3))) ∙ L .before j h;
+        passes = λ _. ap not (shown-mark _ (within _ l (lt? c 3))) ∙ L .passes l;
+      })
     where
       within : (i : ℕ) → i < chunks c → (c < 3) ⊎ (3 ≤ c) → i < mapBits c
       within i l (inl h) = unfold mapBits pick in (rw (lt-ltb c 3 h) l)
       within i l (inr h) = unfold mapBits pick in (rw (le-ltb c 3 h) (omega (arith, large-chunks c h)))
 
   -- how full the page is
-  base : 8 * mapWord w P p c ≡ mapBase w P p c
+  pub base : 8 * mapWord w P p c ≡ mapBase w P p c
   base = ⊎-elim (λ (h : c < 3). rw (word-paged w P p c h, base-paged w P p c h) (omega arith)) (λ (h : 3 ≤ c). rw (word-recorded w P p c h, base-recorded w P p c h)) (lt? c 3)
 
   in-pool : mapWord w P p c + mapBits c / 64 ≤ length (draw w s m) / 8
@@ -284,19 +294,19 @@ module _ {w : ℕ} {s : List ℕ} {m : State} {p c : ℕ} {k : ℕ → Bool} (H 
           (λ d. ⊎-elim (λ (z : d ≡ c). ap (m .lists) z ∙ e ∙ sym (ap (n .lists) z ∙ upd-same (m .lists) c l)) (λ (z : d ≢ c). sym (upd-other (m .lists) c l d z)) (eq? d c))
           (state-shows m W (omega arith)) refl (λ d. refl) refl
 
-    -- the lists are drawn; then the mark and the class record
+    -- the lists are drawn; then the class record and the mark
     module _ (Wn : WellFormed n) (f : ClassRecord → ClassRecord) (own : f (midway m n .class c) ≡ stateImage n .class c)
         (tally : (d : ℕ) → d ≢ c → ta d ≡ m .tally d) where
       pub remarked-drawn : (t : List ℕ) → t ≡ paint w P (midway m n) S
-          → withClass w (withMark t (mapBase w P p c) i v) c (f (classAt w (withMark t (mapBase w P p c) i v) c)) ≡ draw w s n
+          → withMark (withClass w t c (f (classAt w t c))) (mapBase w P p c) i v ≡ draw w s n
       unfolding draw mapped mappedByte inMap
       remarked-drawn t e =
           let F = midway-fits m n W Wn refl few in
-          let z : withMark t (mapBase w P p c) i v ≡ paint w P (setMap (midway m n) p (mapOf (slab c k′))) (mapped w n s) =
-          ap (λ (x : List ℕ). withMark x (mapBase w P p c) i v) e
-          ∙ mark-drawn w s m W room p page-below wide narrow few B (midway m n) F (λ q h. unfold stateImage in map-small (m .page q)) c k is (unfold stateImage in (rw is)) i v in-range in
-          rw z
-          (class-drawn w P wide (setMap (midway m n) p (mapOf (slab c k′))) (mapped w n s) (rw (length-mapped w n s) (omega arith)) (fits-map F p (mapOf (slab c k′))) c
-          (page-ok .in-range) f
-          ∙ counts-drawn m n W Wn refl few c _ _ (λ q h. map-frame m n p (mapOf (slab c k′)) there (ap mapOf here) q) own
+          let I : Image = setClass (midway m n) c (f (midway m n .class c)) in
+          let J : Fits P I = fits-class F c _ (λ l. subst ClassFits (sym own) (state-fits Wn few .class c l)) in
+          let z : withClass w t c (f (classAt w t c)) ≡ paint w P I S = rw e (class-drawn w P wide (midway m n) S records-room F c (page-ok .in-range) f) in
+          let y : withMark (paint w P I S) (mapBase w P p c) i v ≡ paint w P (setMap I p (mapOf (slab c k′))) (mapped w n s) =
+          mark-drawn w s m W room p page-below wide narrow few B I J (λ q h. unfold stateImage in map-small (m .page q)) c k is (unfold stateImage in (rw is)) i v in-range in
+          rw (z, y)
+          (counts-drawn m n W Wn refl few c _ _ (λ q h. map-frame m n p (mapOf (slab c k′)) there (ap mapOf here) q) own
           (λ d x. class-same m n W Wn refl few d (used-other d x) (total-same d) (tally d x)) w (mapped w n s))

@@ -30,8 +30,12 @@ use Rattle.shows.specs.Shows.{Unlisted, ShowsLinks}
 use Rattle.run_laws.proofs.Starts.{keep-every}
 use Rattle.run_laws.proofs.Cut.{shows-written}
 use Rattle.classes.specs.Mirror.{mapWord, chunkCarried, countUsed}
+use Rattle.maps.specs.Mirror.{lowestClear}
+use Rattle.rules.specs.Bytes.{mapBase}
+use Rattle.map_count.specs.Mirror.{mapBits}
 use Rattle.map_occupancy.specs.Mirror.{lastFree}
-use Rattle.chunks.specs.Mirror.{classLinks, setAside, fullLeaves, chunkTaken}
+use Rattle.map_occupancy.proofs.Words.{bit-own}
+use Rattle.chunks.specs.Mirror.{classLinks, setAside, fullLeaves, takenAt, chunkTaken}
 use Rattle.drawing.specs.Draw.{mapped, draw}
 use Rattle.chunk_laws.specs.Midway.{midway}
 use Rattle.chunk_laws.proofs.Counts.{used-bump}
@@ -60,8 +64,14 @@ module _ {w : ℕ} {s : List ℕ} {m : State} {p c : ℕ} {k : ℕ → Bool} (H 
   once : NoDup (p ∷ rest)
   once = rw on at (W .class-lists .once c)
 
+  some : hasClear c k ≡ true
+  some = sym (open-slab c k) ∙ (rw is at (W .class-lists .holds c p listed))
+
   clear : (i < chunks c) × (k i ≡ false)
-  clear = lowest-clear c k (sym (open-slab c k) ∙ (rw is at (W .class-lists .holds c p listed)))
+  clear = lowest-clear c k some
+
+  pub lowest-found : lowestClear (draw w s m) (mapBase w P p c) (mapBits c) ≡ i
+  lowest-found = remarked.lowest-found H some
 
   in-use : own c ≤ i
   in-use = ⊎-elim (λ (h : i < own c). absurd (clash (page-ok H .own-set i h) (clear .1))) (λ (h : own c ≤ i). h) (lt? i (own c))
@@ -147,7 +157,8 @@ module _ {w : ℕ} {s : List ℕ} {m : State} {p c : ℕ} {k : ℕ → Bool} (H 
           rw (e, upd-same (J .links) p (classLinks c), is) (sym (off-list (m .runs) less p c k (off .no-class c (page-ok H .in-range)))))
 
   pub chunk-taken : chunkTaken w (draw w s m) P c p i ≡ draw w s (markChunk m c p rest k .after)
-  unfolding chunkTaken countUsed markChunk
+  unfolding chunkTaken takenAt countUsed markChunk
   chunk-taken =
-      remarked.remarked-drawn H i true (clear .0) l (n l .tally) Wn chunkCarried own-record
-      (λ d e. upd-other (m .tally) c (asked (m .tally c)) d e) _ (⊎-elim stays leaves (bool? (hasClear c k′)))
+      rw (remarked.base H, bit-own c i (clear .0))
+      (remarked.remarked-drawn H i true (clear .0) l (n l .tally) Wn chunkCarried own-record
+      (λ d e. upd-other (m .tally) c (asked (m .tally c)) d e) _ (⊎-elim stays leaves (bool? (hasClear c k′))))

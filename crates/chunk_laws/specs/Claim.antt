@@ -14,15 +14,16 @@ use Rattle.model.specs.WellFormed.{WellFormed}
 use Rattle.maps.specs.Bitmap.{withMark}
 use Rattle.maps.specs.Mirror.{lowestClear}
 use Rattle.rules.specs.Bytes.{pagesIn, mapBase}
+use Rattle.map_count.specs.Mirror.{mapBits}
 use Rattle.drawing.specs.Draw.{draw}
 use Rattle.classes.specs.Mirror.{chunkRefused}
 use Rattle.chunks.specs.Mirror.{chunkTaken, pageCut, chunkFreed}
 
 pub record Laws (w : ℕ) (s : List ℕ) (m : State) : Type 0 where
   pub refused : (c : ℕ) → c ≤ 8 → chunkRefused w (draw w s m) c ≡ draw w s (tallied m c)
-  -- of a class page: the chunk that a search finds
-  pub lowest-found : (p c : ℕ) (k : ℕ → Bool) → m .page p ≡ slab c k → lowestClear (draw w s m) (mapBase w (m .size) p c) (chunks c) ≡ lowest c k
-  -- of the first page of a class list, with the marks k
+  -- of the first page of a class list, with the marks k: the chunk that a search finds, handed out
+  pub lowest-found : (p c : ℕ) (k : ℕ → Bool) (rest : List ℕ) → m .page p ≡ slab c k → m .lists c ≡ p ∷ rest
+      → lowestClear (draw w s m) (mapBase w (m .size) p c) (mapBits c) ≡ lowest c k
   pub taken : (p c : ℕ) (k : ℕ → Bool) (rest : List ℕ) → m .page p ≡ slab c k → m .lists c ≡ p ∷ rest
       → chunkTaken w (draw w s m) (m .size) c p (lowest c k) ≡ draw w s (markChunk m c p rest k .after)
   -- a new page, where the class list is empty

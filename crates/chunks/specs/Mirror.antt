@@ -1,6 +1,6 @@
 -- The operations on the chunks of class pages, in the bytes of a pool of P pages.
--- Each changes the lists first, then the map, and the class record last. w is the number of words of a class record.
-use Prim.Native.Nat.{ℕ, _+_, _/_, _%_}
+-- Each changes the lists first; a chunk is counted then, and its mark is written last. w is the number of words of a class record.
+use Prim.Native.Nat.{ℕ, _+_, _*_, _/_, _%_}
 use mathlib.Core.Bool.{Bool, true, false}
 use mathlib.Core.List.{List}
 use Rattle.base.specs.Tests.{pick}
@@ -16,7 +16,7 @@ use Rattle.rules.specs.Bytes.{mapBase}
 use Rattle.run_extents.specs.Mirror.{frontPage}
 use Rattle.run_neighbours.specs.Mirror.{pagesReleased}
 use Rattle.map_count.specs.Mirror.{mapBits}
-use Rattle.map_occupancy.specs.Mirror.{isFull, lastFree, lastTaken}
+use Rattle.map_occupancy.specs.Mirror.{bitFor, isFull, lastFree, lastTaken}
 use Rattle.classes.specs.Mirror.{mapWord, countUsed, countPageUsed, countBack, countPageBack}
 
 -- ---- class lists
@@ -51,9 +51,12 @@ fullReturns w s c p full = pick full (enlisted w s c p) s
 
 -- ---- the operations
 
--- chunk i of page p, the first on the list of class c, is handed out
+-- chunk i of page p, the first on the list of class c, whose map begins with word k, is handed out
+unfoldable pub takenAt : (w : ℕ) (s : List ℕ) (c p k i : ℕ) → List ℕ
+takenAt w s c p k i = withMark (countUsed w (fullLeaves w s c p (lastFree s k c i)) c) (8 * k) (bitFor c i) true
+
 unfoldable pub chunkTaken : (w : ℕ) (s : List ℕ) (P c p i : ℕ) → List ℕ
-chunkTaken w s P c p i = countUsed w (withMark (fullLeaves w s c p (lastFree s (mapWord w P p c) c i)) (mapBase w P p c) i true) c
+chunkTaken w s P c p i = takenAt w s c p (mapWord w P p c) i
 
 -- the whole map of page p, which is new: the map's own chunks and the first after them are taken
 unfoldable pub newMapAt : (w : ℕ) (s : List ℕ) (P c p : ℕ) → List ℕ
@@ -63,14 +66,17 @@ newMapAt w s P c p = withNewMap s (mapBase w P p c) (mapBits c / 8) (own c + 1)
 unfoldable pub pageCut : (w : ℕ) (s : List ℕ) (P c p : ℕ) → List ℕ
 pageCut w s P c p = countPageUsed w (newMapAt w (enlisted w (frontPage w s p) c p) P c p) c
 
--- chunk i of page p comes back and others stay taken
-unfoldable pub chunkKept : (w : ℕ) (s : List ℕ) (P c p i : ℕ) → List ℕ
-chunkKept w s P c p i = countBack w (withMark (fullReturns w s c p (isFull s (mapWord w P p c) c)) (mapBase w P p c) i false) c
+-- chunk i of page p, whose map begins with word k, comes back and others stay taken
+unfoldable pub keptAt : (w : ℕ) (s : List ℕ) (c p k i : ℕ) → List ℕ
+keptAt w s c p k i = withMark (countBack w (fullReturns w s c p (isFull s k c)) c) (8 * k) (bitFor c i) false
 
 -- the last chunk i of page p comes back: the page leaves the list and is released
 unfoldable pub pageDropped : (w : ℕ) (s : List ℕ) (P c p i : ℕ) → List ℕ
 pageDropped w s P c p i = countPageBack w (withMark (pagesReleased w (delisted w s c p) P p 1) (mapBase w P p c) i false) c
 
 -- chunk i of page p comes back
+unfoldable pub freedAt : (w : ℕ) (s : List ℕ) (P c p k i : ℕ) → List ℕ
+freedAt w s P c p k i = pick (lastTaken s k c i) (pageDropped w s P c p i) (keptAt w s c p k i)
+
 unfoldable pub chunkFreed : (w : ℕ) (s : List ℕ) (P c p i : ℕ) → List ℕ
-chunkFreed w s P c p i = pick (lastTaken s (mapWord w P p c) c i) (pageDropped w s P c p i) (chunkKept w s P c p i)
+chunkFreed w s P c p i = freedAt w s P c p (mapWord w P p c) i

@@ -71,13 +71,23 @@ module _ (v : ℕ) (small : v < 18446744073709551616) where
   unfolding packCounts unpackClass
   used-borrows = borrows v _ _ _ (pack-unpack-counts v 0 small) (mod-lt _ (lit< tt)) (mod-lt _ (lit< tt)) (eq? _ _)
 
-  pub asks-rise : v < 18446744069414584320 → v + 4294967296 ≡ packTally (chunkAsked (unpackClass 0 v))
+  asks-rise : v < 18446744069414584320 → v + 4294967296 ≡ packTally (chunkAsked (unpackClass 0 v))
   unfolding packTally unpackClass
   asks-rise h = omega (arith, raise-more (v / 4294967296 % 4294967296) (omega arith))
 
-  pub asks-stop : 18446744069414584320 ≤ v → v ≡ packTally (chunkAsked (unpackClass 0 v))
+  asks-stop : 18446744069414584320 ≤ v → v ≡ packTally (chunkAsked (unpackClass 0 v))
   unfolding packTally unpackClass
   asks-stop h = omega (arith, raise-stops (v / 4294967296 % 4294967296) (omega arith))
+
+  -- the sum in 64 bits says by itself whether asks have stopped
+  module _ (x : ℕ) (sum : x ≡ (v + 4294967296) % 18446744073709551616) where
+    pub asks-carry : x < v → v ≡ packTally (chunkAsked (unpackClass 0 v))
+    asks-carry h = asks-stop (omega arith)
+
+    pub asks-added : v ≤ x → x ≡ packTally (chunkAsked (unpackClass 0 v))
+    asks-added h =
+        let z : x ≡ v + 4294967296 = omega arith in
+        z ∙ asks-rise (omega arith)
 
 -- ---- in the record: the other word does not matter
 

@@ -4,8 +4,10 @@ use records::COUNTS;
 use records::ClassRecord;
 use records::MOST_ASKS;
 ghost use mathlib.Core.Path.{_≡_};
-ghost use Prim.Native.Nat.{_+_, _-_, _%_};
+ghost use Prim.Native.Nat.{_+_, _-_, _/_, _%_, _<_};
+ghost use lib.ListN.{length};
 ghost use Rattle.words.specs.Word.{word, setWord};
+ghost use Rattle.records.specs.Layout.{countsPlace, tallyPlace};
 ghost use Rattle.records.specs.Class.{packCounts, packTally, unpackClass};
 ghost use Rattle.model.specs.Calls.{raise};
 ghost use Rattle.classes.specs.Mirror.{chunkAsked, chunkUsed, chunkCarried, chunkBack, chunkBorrowed, countUsed, countPageUsed, countBack, countPageBack, chunkRefused};
@@ -48,17 +50,14 @@ fn chunk_back(r: ClassRecord) -> ClassRecord
     records::used_to(r, minus(r.used, 1))
 }
 
-// ---- one chunk more or less, in the words that change: `used` is the middle 24 bits of the counts, `reqs` the upper half of the tallies.
-// On sound records `used` neither overflows nor falls below 0, so the word is added to as it stands
+// ---- one chunk more or less, in the words that change, which the caller knows to be whole: `used` is the middle 24 bits of the counts,
+// `reqs` the upper half of the tallies. On sound records `used` neither overflows nor falls below 0, so the word is added to as it stands
 
 const ONE_USED: u64 = 16777216;
 
 const MINUS_ONE_USED: u64 = 18446744073692774400;
 
 const ONE_ASK: u64 = 4294967296;
-
-// The least word in which asks have stopped.
-const ASKS_STOPPED: u64 = 18446744069414584320;
 
 fn used_more(v: u64) -> u64
     ensures { λ r. ⌜ r ≡ packCounts (chunkCarried (unpackClass v 0)) ⌝ }
@@ -72,34 +71,40 @@ fn used_less(v: u64) -> u64
     std::num::wrapping_add_u64(v, MINUS_ONE_USED)
 }
 
+// Asks that have stopped carry out of the word.
 fn asks_more(v: u64) -> u64
     ensures { λ r. ⌜ r ≡ packTally (chunkAsked (unpackClass 0 v)) ⌝ }
 {
-    if v < ASKS_STOPPED { v + ONE_ASK } else { v }
+    let x = std::num::wrapping_add_u64(v, ONE_ASK);
+    if x < v { v } else { x }
 }
 
 fn count_one_used(pool: &mut [u8], k: usize)
+    requires { ⌜ k < length (now pool) / 8 ⌝ }
     ensures { λ _. ⌜ now (pool .exit) ≡ setWord (now (pool .entry)) k (packCounts (chunkCarried (unpackClass (word (now (pool .entry)) k) 0))) ⌝ }
 {
-    let v = cells::get_word(pool, k);
-    cells::put_word(pool, k, used_more(v));
+    let v = cells::get_word_in(pool, k);
+    cells::put_word_in(pool, k, used_more(v));
 }
 
 fn count_one_back(pool: &mut [u8], k: usize)
+    requires { ⌜ k < length (now pool) / 8 ⌝ }
     ensures { λ _. ⌜ now (pool .exit) ≡ setWord (now (pool .entry)) k (packCounts (chunkBorrowed (unpackClass (word (now (pool .entry)) k) 0))) ⌝ }
 {
-    let v = cells::get_word(pool, k);
-    cells::put_word(pool, k, used_less(v));
+    let v = cells::get_word_in(pool, k);
+    cells::put_word_in(pool, k, used_less(v));
 }
 
 fn count_one_ask(pool: &mut [u8], k: usize)
+    requires { ⌜ k < length (now pool) / 8 ⌝ }
     ensures { λ _. ⌜ now (pool .exit) ≡ setWord (now (pool .entry)) k (packTally (chunkAsked (unpackClass 0 (word (now (pool .entry)) k)))) ⌝ }
 {
-    let v = cells::get_word(pool, k);
-    cells::put_word(pool, k, asks_more(v));
+    let v = cells::get_word_in(pool, k);
+    cells::put_word_in(pool, k, asks_more(v));
 }
 
 pub fn count_used(pool: &mut [u8], w: u8, c: u8)
+    requires { ⌜ tallyPlace w c < length (now pool) / 8 ⌝ }
     ensures { λ _. ⌜ now (pool .exit) ≡ countUsed w (now (pool .entry)) c ⌝ }
 {
     count_one_used(pool, records::place(1, w, c as u16));
@@ -115,6 +120,7 @@ pub fn count_page_used(pool: &mut [u8], w: u8, c: u8)
 }
 
 pub fn count_back(pool: &mut [u8], w: u8, c: u8)
+    requires { ⌜ countsPlace w c < length (now pool) / 8 ⌝ }
     ensures { λ _. ⌜ now (pool .exit) ≡ countBack w (now (pool .entry)) c ⌝ }
 {
     count_one_back(pool, records::place(1, w, c as u16));

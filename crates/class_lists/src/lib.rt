@@ -2,7 +2,7 @@
 // `w` is the number of words of a class record.
 use records::PageNumber;
 ghost use mathlib.Core.Path.{_≡_};
-ghost use Rattle.chunks.specs.Mirror.{delisted, setAside, enlisted, fullLeaves, fullReturns};
+ghost use Rattle.chunks.specs.Mirror.{delisted, setAside, enlisted, fullReturns};
 
 // Page p leaves the list of class c.
 pub fn delist(pool: &mut [u8], w: u8, c: u8, p: PageNumber)
@@ -13,7 +13,7 @@ pub fn delist(pool: &mut [u8], w: u8, c: u8, p: PageNumber)
 }
 
 // And stays a class page.
-fn set_aside(pool: &mut [u8], w: u8, c: u8, p: PageNumber)
+pub fn set_aside(pool: &mut [u8], w: u8, c: u8, p: PageNumber)
     ensures { λ _. ⌜ now (pool .exit) ≡ setAside w (now (pool .entry)) c (p .0) ⌝ }
 {
     delist(pool, w, c, p);
@@ -24,15 +24,6 @@ pub fn enlist(pool: &mut [u8], w: u8, c: u8, p: PageNumber)
     ensures { λ _. ⌜ now (pool .exit) ≡ enlisted w (now (pool .entry)) c (p .0) ⌝ }
 {
     list_moves::push_front(pool, w, chunks::list_of(c), p, chunks::class_links(c));
-}
-
-// Page p is to have one chunk more taken: if that is its last the page leaves the list.
-pub fn leave_if_full(pool: &mut [u8], w: u8, c: u8, p: PageNumber, last: bool)
-    ensures { λ _. ⌜ now (pool .exit) ≡ fullLeaves w (now (pool .entry)) c (p .0) last ⌝ }
-{
-    if last {
-        set_aside(pool, w, c, p);
-    }
 }
 
 // Page p is to have one chunk fewer taken: if it was full it returns to the head of the list.

@@ -3,6 +3,7 @@ use mathlib.Core.Path.{_≡_, refl}
 use mathlib.Core.Logic.{⊎-elim, _≢_}
 use mathlib.Core.Bool.{false, not}
 use Prim.Native.Nat.{ℕ, zero, suc, _+_, _-_, _*_, _/_, _^_, _≤_, _<_}
+use native.Mathlib.Nat.{mul-le-mul-left}
 use native.Mathlib.Omega.{arith}
 use borrow.Author.Needs.{needs}
 use lib.Pow.{pow-pos, pow-mono}
@@ -101,6 +102,21 @@ module _ (w P p c : ℕ) where
   pub base-recorded : 3 ≤ c → mapBase w P p c ≡ 8 * mapPlace w p
   unfolding mapBase pick
   base-recorded h = rw (le-ltb c 3 h)
+
+-- ---- words that lie in a slice of n words, which has all of the records and pages
+
+module _ (w P n : ℕ) (wide : 2 ≤ w) (whole : 1 + 9 * w + 514 * P ≤ n) where
+  pub tally-whole : (c : ℕ) → c ≤ 8 → 2 + w * c < n
+  tally-whole c h = omega (arith, mul-le-mul-left w h)
+
+  module _ (p : ℕ) (below : p < P) where
+    pub links-whole : 2 + 9 * w + 2 * p < n
+    links-whole = omega arith
+
+    -- a map has eight words at most, and another follows
+    pub map-whole : (c : ℕ) → mapWord w P p c + 8 < n
+    map-whole c =
+        ⊎-elim (λ (h : c < 3). rw (word-paged w P p c h) (omega arith)) (λ (h : 3 ≤ c). rw (word-recorded w P p c h) (omega arith)) (lt? c 3)
 
 -- ---- a tally
 

@@ -1,8 +1,9 @@
 -- The map of a class page and the record of a class, in the bytes of a pool of P pages.
 -- w is the number of words of a class record.
-use Prim.Native.Nat.{ℕ, _+_, _-_, _*_, _/_, _%_, _^_}
+use Prim.Native.Nat.{ℕ, _+_, _-_, _*_, _/_, _%_, _^_, _≤_}
 use mathlib.Core.List.{List}
 use lib.Dec.{ltb}
+use lib.ListN.{length}
 use Rattle.base.specs.Tests.{pick}
 use Rattle.records.specs.Layout.{mapPlace}
 use Rattle.records.specs.declared.ClassRecord.{ClassRecord}
@@ -10,6 +11,12 @@ use Rattle.records.specs.Class.{classAt, withClass}
 use Rattle.records.specs.Mirror.{usedTo, totalTo, reqsTo, failsTo}
 use Rattle.model.specs.Classes.{own, counted}
 use Rattle.model.specs.Calls.{raise}
+
+-- ---- what a caller on validated records knows
+
+-- the slice has every word of the records and of the P pages
+abbrev pub Whole : (w : ℕ) (s : List ℕ) (P : ℕ) → Type 0
+Whole w s P = (2 ≤ w) × (1 + 9 * w + 514 * P ≤ length s / 8)
 
 -- ---- the map of a page
 

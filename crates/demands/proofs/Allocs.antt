@@ -5,7 +5,7 @@ use mathlib.Core.Option.{Option, none, some}
 use mathlib.Core.List.{List, [], _∷_}
 use Prim.Native.Nat.{ℕ, _+_, _%_, _≤_, _<_}
 use native.Mathlib.Omega.{arith}
-use borrow.Author.Tests.{eq-eqb, ne-eqb, le-leb, lt-leb}
+use borrow.Author.Tests.{eq-eqb, ne-eqb, lt-ltb, le-ltb, le-leb, lt-leb}
 use Rattle.base.specs.Tests.{pick}
 use Rattle.base.specs.Links.{headOr}
 use Rattle.base.proofs.Cases.{eq?, lt?}
@@ -31,7 +31,8 @@ use Rattle.demands.specs.Calls.{outcome, redrawn}
 pub record AllocFacts (w : ℕ) (s : List ℕ) (P : ℕ) (m : State) : Type 0 where
   pub same : draw w s m ≡ s
   pub first : (c : ℕ) → c ≤ 8 → firstOf w s (1 + c) ≡ headOr noPage (m .lists c)
-  pub listed : (c p : ℕ) (rest : List ℕ) → c ≤ 8 → m .lists c ≡ p ∷ rest → p ≢ noPage
+  pub few : P ≤ noPage
+  pub listed : (c p : ℕ) (rest : List ℕ) → c ≤ 8 → m .lists c ≡ p ∷ rest → p < P
   pub fits : (k : ℕ) → 1 ≤ k → fitIn w s P k ≡ startOr (fit k (m .runs))
   pub found : (k : ℕ) (r : Run) → fit k (m .runs) ≡ some r → (r .start ≢ noPage) × (k < 65536)
   pub low : (c p : ℕ) (rest : List ℕ) → c ≤ 8 → m .lists c ≡ p ∷ rest → lowestOn w s P c p ≡ lowest c (marksOf (m .page p))
@@ -68,10 +69,9 @@ module _ {w : ℕ} {s : List ℕ} {P : ℕ} {m : State} (F : AllocFacts w s P m)
   unfolding fromOutcome fromSlice newOutcome newSlice chunkOutcome chunkSlice pick allocChunk markChunk
   from-does c h [] e =
       let D = cut-does c h e (fit 1 (m .runs)) refl in
-      rw (F .fits 1 (omega arith)) D
+      rw (le-ltb noPage P (F .few), F .fits 1 (omega arith)) D
   from-does c h (p ∷ rest) e =
-      let d = F .listed c p rest h e in
-      rw (ne-eqb p noPage d, F .low c p rest h e) (record { answer = refl; slice = F .chunk c p rest h e })
+      rw (lt-ltb p P (F .listed c p rest h e), F .low c p rest h e) (record { answer = refl; slice = F .chunk c p rest h e })
 
   class-does : (c : ℕ) → c ≤ 8 → Does w s (classOutcome w s P c) (classSlice w s P c) (allocFor m (chunkOf c))
   unfolding classOutcome classSlice allocFor

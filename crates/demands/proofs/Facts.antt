@@ -1,7 +1,7 @@
 -- What reading the bytes of a sound pool gives, in the words of its state.
 use mathlib.Core.Path.{_≡_, refl, sym, ap, _∙_, subst}
 use mathlib.Core.Logic.{_⊎_, inl, inr, _≢_}
-use mathlib.Core.Bool.{Bool, true, false, not}
+use mathlib.Core.Bool.{Bool, true, false}
 use mathlib.Core.Option.{some}
 use mathlib.Core.List.{List, _∷_}
 use Prim.Native.Nat.{ℕ, _+_, _-_, _*_, _/_, _≤_, _<_}
@@ -9,18 +9,15 @@ use native.Mathlib.Omega.{arith}
 use lib.ListN.{length}
 use borrow.Author.Tests.{lt-ltb, ne-eqb}
 use Rattle.base.specs.Tests.{pick}
-use Rattle.base.specs.Search.{least}
 use Rattle.base.specs.Links.{headOr}
 use Rattle.base.proofs.Cases.{clash, lt?, never}
-use Rattle.base.proofs.Search.{least-spec, least-is}
 use Rattle.words.specs.Word.{Bytes}
 use Rattle.records.specs.Layout.{noPage}
 use Rattle.records.specs.declared.Links.{Links}
 use Rattle.records.specs.Page.{linksAt}
 use Rattle.maps.specs.Bitmap.{mark}
-use Rattle.maps.specs.Mirror.{lowestClear}
-use Rattle.model.specs.Classes.{chunks, lowest}
-use Rattle.model.specs.State.{Page, slab, edge, Run, State, isIdle, marksOf}
+use Rattle.model.specs.Classes.{chunks}
+use Rattle.model.specs.State.{Page, slab, edge, Run, State, isIdle, isOpen, marksOf}
 use Rattle.model.specs.WellFormed.{WellFormed}
 use Rattle.model.specs.Runs.{fit}
 use Rattle.model.proofs.Runs.{fit-found}
@@ -32,16 +29,15 @@ use Rattle.lists.proofs.Paint.{first-shown}
 use Rattle.rules.specs.Drawn.{stateImage, stateFields, pageLinks}
 use Rattle.rules.specs.Bytes.{pagesIn, mapBase, markAt, fieldsOf, imageOf, brokenRule, read}
 use Rattle.rules.proofs.Fits.{state-fits}
+use Rattle.classes.specs.Mirror.{Whole}
 use Rattle.drawing.specs.Draw.{mapped, draw}
 use Rattle.drawing.specs.Claim.{Fitting}
 use Rattle.drawing.proofs.Mapped.{length-mapped}
 use Rattle.drawing.proofs.Drawn.{drawn-shows}
 use Rattle.drawing.proofs.Laws.{claims as laws-of}
-use Rattle.shows.proofs.Shows.{listed-low}
 use Rattle.run_extents.specs.Mirror.{fitIn}
 use Rattle.run_laws.specs.OnImage.{startOr}
 use Rattle.run_laws.proofs.Drawn.{fit-drawn}
-use Rattle.alloc_sound.specs.Mirror.{lowestOn}
 
 module _ (w : ℕ) (wide : 2 ≤ w) (narrow : w ≤ 255) (s : List ℕ) (B : Bytes s) (sound : brokenRule w s ≡ 0) where
   abbrev m : State
@@ -64,6 +60,10 @@ module _ (w : ℕ) (wide : 2 ≤ w) (narrow : w ≤ 255) (s : List ℕ) (B : Byt
 
   room : 1 + 9 * w + 2 * m .size ≤ length (mapped w m s) / 8
   room = rw (length-mapped w m s) (omega (arith, W .some-page, fitting .size))
+
+  -- every word of the records and pages is there
+  pub whole : Whole w s (pagesIn w s)
+  whole = (wide, omega (arith, W .some-page, fitting .size))
 
   -- ---- the records
 
@@ -96,8 +96,13 @@ module _ (w : ℕ) (wide : 2 ≤ w) (narrow : w ≤ 255) (s : List ℕ) (B : Byt
   pub ends : (p : ℕ) → p < pagesIn w s → m .page p ≢ edge
   ends p h e = omega (arith, W .table .ends p e, fitting .size)
 
-  pub listed-page : (c p : ℕ) (rest : List ℕ) → m .lists c ≡ p ∷ rest → p ≢ noPage
-  listed-page c p rest e d = omega (arith, listed-low m W (omega (arith, fitting .few)) c p (rw e (inl refl)))
+  pub listed-page : (c p : ℕ) (rest : List ℕ) → m .lists c ≡ p ∷ rest → p < pagesIn w s
+  unfolding isOpen
+  listed-page c p rest e = side (lt? p (pagesIn w s))
+    where
+      side : (p < pagesIn w s) ⊎ (pagesIn w s ≤ p) → p < pagesIn w s
+      side (inl h) = h
+      side (inr h) = absurd (clash (W .class-lists .holds c p (rw e (inl refl))) (rw (past p h)))
 
   pub run-found : (k : ℕ) (r : Run) → fit k (m .runs) ≡ some r → (r .start ≢ noPage) × (k < 65536)
   run-found k r e =
@@ -131,17 +136,6 @@ module _ (w : ℕ) (wide : 2 ≤ w) (narrow : w ≤ 255) (s : List ℕ) (B : Byt
       side : (p < m .size) ⊎ (m .size ≤ p) → p < m .size
       side (inl l) = l
       side (inr l) = absurd (never (let z = sym e ∙ W .table .past p l in cc))
-
-  pub lowest-is : (c p : ℕ) (b : ℕ → Bool) → m .page p ≡ slab c b → lowestOn w s (pagesIn w s) c p ≡ lowest c b
-  unfolding lowestOn lowestClear lowest
-  lowest-is c p b e =
-      let L = least-spec (λ i. not (b i)) (chunks c) in
-      let at : (i : ℕ) → i < chunks c → not (mark s (mapBase w (pagesIn w s) p c) i) ≡ not (b i) = λ i h. ap not (marks-are p c b e i h) in
-      least-is (λ i. not (mark s (mapBase w (pagesIn w s) p c) i)) (chunks c) (least (λ i. not (b i)) (chunks c)) (record {
-        at-most = L .at-most;
-        before = λ j h. at j (omega (arith, L .at-most)) ∙ L .before j h;
-        passes = λ h. at _ h ∙ L .passes h;
-      })
 
   pub listed-slab : (c p : ℕ) (rest : List ℕ) → m .lists c ≡ p ∷ rest → m .page p ≡ slab c (marksOf (m .page p))
   listed-slab c p rest e =

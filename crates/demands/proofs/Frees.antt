@@ -22,8 +22,8 @@ use Rattle.rules.specs.Bytes.{pagesIn, mapBase}
 use Rattle.rules.specs.Drawn.{links, freeLinks, pageLinks}
 use Rattle.run_neighbours.specs.Mirror.{pagesReleased}
 use Rattle.chunks.specs.Mirror.{chunkFreed}
-use Rattle.locate.specs.Mirror.{marked, markFound, pastFound, startFound, sizedFound, offsetFound, classFound, runFound, kindFound, pageFound, located}
-use Rattle.free_sound.specs.Mirror.{foundOutcome, foundSlice, freeOutcome, freeSlice}
+use Rattle.locate.specs.Mirror.{pastFound, startFound, sizedFound, offsetFound, classFound, runFound, kindFound, pageFound, located}
+use Rattle.free_sound.specs.Mirror.{marked, chunkOutcome, chunkSlice, foundOutcome, foundSlice, freeOutcome, freeSlice}
 use Rattle.drawing.specs.Draw.{draw}
 use Rattle.demands.specs.Calls.{clearedAt}
 use Rattle.demands.proofs.Allocs.{Does}
@@ -50,8 +50,8 @@ module _ {w : ℕ} {s : List ℕ} {m : State} (F : FreeFacts w s m) where
 
   -- a chunk of a class page, q bytes in
   chunk-does : (p q c : ℕ) (b : ℕ → Bool) → p < P → q < 4096 → m .page p ≡ slab c b →
-      Does w (clearedAt w s p q (slab c b)) (foundOutcome (classFound w s P c p q)) (foundSlice w s P (classFound w s P c p q)) (freeAt m p q (slab c b))
-  unfolding classFound offsetFound sizedFound startFound pastFound markFound pick clearedAt freeAt startsChunk refuse notTaken notAStart
+      Does w (clearedAt w s p q (slab c b)) (foundOutcome w s P (classFound c p q)) (foundSlice w s P (classFound c p q)) (freeAt m p q (slab c b))
+  unfolding classFound offsetFound sizedFound startFound pastFound chunkOutcome chunkSlice pick clearedAt freeAt startsChunk refuse notTaken notAStart
   chunk-does p q c b h l e = go (eq? (q % chunk c) 0) (lt? (q / chunk c) (own c)) (bool? (b (q / chunk c)))
     where
       c8 : c ≤ 8
@@ -66,31 +66,34 @@ module _ {w : ℕ} {s : List ℕ} {m : State} (F : FreeFacts w s m) where
       small : i % 65536 ≡ i
       small = let x : i < chunks c = few in let y : chunks c ≤ 512 = F .few-chunks c c8 in omega arith
 
+      narrow : i % 512 ≡ i
+      narrow = let x : i < chunks c = few in let y : chunks c ≤ 512 = F .few-chunks c c8 in omega arith
+
       go : (q % chunk c ≡ 0) ⊎ (q % chunk c ≢ 0) → (i < own c) ⊎ (own c ≤ i) → (b i ≡ true) ⊎ (b i ≡ false) →
-          Does w (clearedAt w s p q (slab c b)) (foundOutcome (classFound w s P c p q)) (foundSlice w s P (classFound w s P c p q)) (freeAt m p q (slab c b))
+          Does w (clearedAt w s p q (slab c b)) (foundOutcome w s P (classFound c p q)) (foundSlice w s P (classFound c p q)) (freeAt m p q (slab c b))
       go (inr d) x y = rw (le-leb c 8 c8, ne-eqb (q % chunk c) 0 d) (record { answer = refl; slice = sym (F .same) })
       go (inl d) (inl x) y =
           rw (le-leb c 8 c8, eq-eqb (q % chunk c) 0 d, small, lt-ltb i (own c) x, lt-leb (own c) i x) (record { answer = refl; slice = sym (F .same) })
       go (inl d) (inr x) (inl y) =
-          rw (le-leb c 8 c8, eq-eqb (q % chunk c) 0 d, small, le-ltb i (own c) x, le-leb (own c) i x, F .mark p c i b h e few, y, small)
+          rw (le-leb c 8 c8, eq-eqb (q % chunk c) 0 d, small, le-ltb i (own c) x, le-leb (own c) i x, narrow, F .mark p c i b h e few, y)
           (record { answer = refl; slice = F .chunk p c i b e x few y })
       go (inl d) (inr x) (inr y) =
-          rw (le-leb c 8 c8, eq-eqb (q % chunk c) 0 d, small, le-ltb i (own c) x, le-leb (own c) i x, F .mark p c i b h e few, y)
+          rw (le-leb c 8 c8, eq-eqb (q % chunk c) 0 d, small, le-ltb i (own c) x, le-leb (own c) i x, narrow, F .mark p c i b h e few, y)
           (record { answer = refl; slice = sym (F .same) })
 
   page-does : (p q : ℕ) → p < P → q < 4096 → (x : Page) → m .page p ≡ x →
-      Does w (clearedAt w s p q x) (foundOutcome (kindFound w s P p q (pageLinks (m .runs) (m .lists) p x))) (foundSlice w s P (kindFound w s P p q (pageLinks (m .runs) (m .lists) p x))) (freeAt m p q x)
+      Does w (clearedAt w s p q x) (foundOutcome w s P (kindFound p q (pageLinks (m .runs) (m .lists) p x))) (foundSlice w s P (kindFound p q (pageLinks (m .runs) (m .lists) p x))) (freeAt m p q x)
   unfolding kindFound runFound pick clearedAt freeAt refuse outside notTaken notAStart freeLinks
   page-does p q h l idle e = go (eq? (startsAt p (m .runs)) 0)
     where
       go : (startsAt p (m .runs) ≡ 0) ⊎ (startsAt p (m .runs) ≢ 0) →
-          Does w s (foundOutcome (kindFound w s P p q (freeLinks (m .runs) p))) (foundSlice w s P (kindFound w s P p q (freeLinks (m .runs) p))) (freeAt m p q idle)
+          Does w s (foundOutcome w s P (kindFound p q (freeLinks (m .runs) p))) (foundSlice w s P (kindFound p q (freeLinks (m .runs) p))) (freeAt m p q idle)
       go (inl z) = rw (eq-eqb (startsAt p (m .runs)) 0 z) (record { answer = refl; slice = sym (F .same) })
       go (inr z) = rw (ne-eqb (startsAt p (m .runs)) 0 z) (record { answer = refl; slice = sym (F .same) })
   page-does p q h l (slab c b) e = chunk-does p q c b h l e
   page-does p q h l (taken n) e = go (eq? q 0)
     where
-      go : (q ≡ 0) ⊎ (q ≢ 0) → Does w s (foundOutcome (kindFound w s P p q (links 3 0 n noPage noPage))) (foundSlice w s P (kindFound w s P p q (links 3 0 n noPage noPage))) (freeAt m p q (taken n))
+      go : (q ≡ 0) ⊎ (q ≢ 0) → Does w s (foundOutcome w s P (kindFound p q (links 3 0 n noPage noPage))) (foundSlice w s P (kindFound p q (links 3 0 n noPage noPage))) (freeAt m p q (taken n))
       go (inl z) = rw (eq-eqb q 0 z) (record { answer = refl; slice = F .run p n e })
       go (inr z) = rw (ne-eqb q 0 z) (record { answer = refl; slice = sym (F .same) })
   page-does p q h l inside e = record { answer = refl; slice = sym (F .same) }

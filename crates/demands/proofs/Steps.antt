@@ -1,5 +1,5 @@
 -- The code's steps on the bytes of a sound pool give the answer and the slice that the calls promise.
-use mathlib.Core.Path.{_≡_, sym, ap, _∙_}
+use mathlib.Core.Path.{_≡_, sym, ap, _∙_, subst}
 use mathlib.Core.Logic.{_⊎_, inl, inr}
 use mathlib.Core.Bool.{Bool, true, false, cond, not}
 use mathlib.Core.List.{List}
@@ -17,7 +17,8 @@ use Rattle.words.specs.Word.{Bytes}
 use Rattle.records.specs.Layout.{pageCount}
 use Rattle.answers.specs.Outcome.{Outcome, refused}
 use Rattle.answers.specs.declared.Refusal.the-variants.{NotSound}
-use Rattle.maps.specs.Bitmap.{withMark}
+use Rattle.maps.specs.Bitmap.{mark, withMark}
+use Rattle.maps.specs.Mirror.{lowestClear}
 use Rattle.model.specs.Classes.{chunk, chunks, own, lowest, hasTaken}
 use Rattle.model.specs.State.{State, slab, marksOf}
 use Rattle.model.specs.Calls.{Call, Alloc, Free, dropPage, freeChunk, step}
@@ -25,22 +26,23 @@ use Rattle.model.proofs.Classes.{chunk-index}
 use Rattle.rules.specs.Bytes.{pagesIn, mapBase, brokenRule, read}
 use Rattle.drawing.specs.Draw.{draw}
 use Rattle.drawing.specs.Claim.{Fitting}
+use Rattle.map_count.specs.Mirror.{mapBits}
+use Rattle.map_occupancy.proofs.Words.{bit-own}
 use Rattle.chunks.specs.Mirror.{chunkTaken, pageCut, chunkFreed}
-use Rattle.classes.specs.Mirror.{chunkRefused}
+use Rattle.classes.specs.Mirror.{Whole, chunkRefused}
 use Rattle.run_extents.specs.Mirror.{runTaken}
 use Rattle.run_neighbours.specs.Mirror.{pagesReleased}
 use Rattle.chunk_laws.specs.Claim.{Laws}
 use Rattle.chunk_laws.proofs.Laws.{claims as chunk-laws}
 use Rattle.run_laws.proofs.Drawn.{run-taken, run-released}
-use Rattle.alloc_sound.specs.Mirror.{allocOutcome, allocSlice}
-use Rattle.locate.specs.Mirror.{marked}
-use Rattle.free_sound.specs.Mirror.{freeOutcome, freeSlice}
+use Rattle.alloc_sound.specs.Mirror.{lowestOn, allocOutcome, allocSlice}
+use Rattle.free_sound.specs.Mirror.{marked, freeOutcome, freeSlice}
 use Rattle.demands.specs.Calls.{answered, cleared, after}
 use Rattle.demands.proofs.Calls.{sound-answer, drawn-after, back-drawn}
 use Rattle.demands.proofs.Peaks.{chunk-raised, pages-level, free-level}
 use Rattle.demands.proofs.Allocs.{AllocFacts, alloc-does}
 use Rattle.demands.proofs.Frees.{FreeFacts, free-does}
-use Rattle.demands.proofs.Facts.{fitting, same, few, first-page, links-are, fit-is, past, ends, listed-page, run-found, marks-are, lowest-is, listed-slab}
+use Rattle.demands.proofs.Facts.{fitting, same, few, whole, first-page, links-are, fit-is, past, ends, listed-page, run-found, marks-are, listed-slab}
 
 module _ (w : ℕ) (wide : 2 ≤ w) (narrow : w ≤ 255) (s : List ℕ) (B : Bytes s) (sound : brokenRule w s ≡ 0) where
   abbrev m : State
@@ -60,13 +62,17 @@ module _ (w : ℕ) (wide : 2 ≤ w) (narrow : w ≤ 255) (s : List ℕ) (B : Byt
   on f = sym (ap (λ (t : List ℕ). f t (pagesIn w s)) (same w wide narrow s B sound)) ∙ sym (ap (f (draw w s m)) (F .size))
 
   alloc-facts : AllocFacts w s (pagesIn w s) m
+  unfolding lowestOn
   alloc-facts = record {
     same = same w wide narrow s B sound;
+    few = few w wide narrow s B sound;
     first = first-page w wide narrow s B sound;
     listed = λ c p rest h e. listed-page w wide narrow s B sound c p rest e;
     fits = λ k h. fit-is w wide narrow s B sound k;
     found = run-found w wide narrow s B sound;
-    low = λ c p rest h e. lowest-is w wide narrow s B sound c p (marksOf (m .page p)) (listed-slab w wide narrow s B sound c p rest e);
+    low = λ c p rest h e.
+        on (λ t n. lowestClear t (mapBase w n p c) (mapBits c))
+        ∙ L .lowest-found p c (marksOf (m .page p)) rest (listed-slab w wide narrow s B sound c p rest e) e;
     chunk = λ c p rest h e.
         on (λ t n. chunkTaken w t n c p (lowest c (marksOf (m .page p))))
         ∙ L .taken p c (marksOf (m .page p)) rest (listed-slab w wide narrow s B sound c p rest e) e;
@@ -89,7 +95,7 @@ module _ (w : ℕ) (wide : 2 ≤ w) (narrow : w ≤ 255) (s : List ℕ) (B : Byt
     class = λ p c b e. (rw e at (F .well .table .each p)) .in-range;
     index = λ c q h l. chunk-index c h (q / chunk c) (omega (arith, div-add-mod' q (chunk c), mul-comm (chunk c) (q / chunk c)));
     few-chunks = λ c h. unfold chunks in pow-mono {i = 9 - c} {j = 9} (omega arith);
-    mark = λ p c i b h e l. marks-are w wide narrow s B sound p c b e i l;
+    mark = λ p c i b h e l. ap (mark s (mapBase w (pagesIn w s) p c)) (bit-own c i l) ∙ marks-are w wide narrow s B sound p c b e i l;
     chunk = chunk-back;
     run = λ p n e. on (λ t k. pagesReleased w t k p n) ∙ run-released w wide narrow (F .well) small s (F .size) p n e;
   }
@@ -135,6 +141,9 @@ module _ (w : ℕ) (s : List ℕ) (t : Bool) (e : t ≡ eqb (brokenRule w s) 0) 
 
     pages-are : pages ≡ pagesIn w s
     pages-are = p ∙ omega (arith, few w wide narrow s B sound)
+
+    pub whole-told : Whole w s pages
+    whole-told = subst (Whole w s) (sym pages-are) (whole w wide narrow s B sound)
 
     pub alloc-steps : (size : ℕ) (o : Outcome) (u : List ℕ) → o ≡ allocOutcome w s pages size → u ≡ allocSlice w s pages size →
         (o ≡ answered w s (Alloc size)) × (u ≡ after w s (Alloc size))

@@ -9,8 +9,11 @@ use records::Links;
 use records::PAGE;
 use records::PageNumber;
 ghost use mathlib.Core.Path.{_≡_};
-ghost use Prim.Native.Nat.{_≤_, _<_};
-ghost use Rattle.locate.specs.Mirror.{marked, markFound, pastFound, startFound, sizedFound, offsetFound, classFound, runFound, kindFound, pageFound, located};
+ghost use Prim.Native.Nat.{_/_, _≤_, _<_};
+ghost use lib.ListN.{length};
+ghost use Rattle.records.specs.Layout.{linksPlace};
+ghost use Rattle.classes.specs.Mirror.{Whole};
+ghost use Rattle.locate.specs.Mirror.{pastFound, startFound, sizedFound, offsetFound, classFound, runFound, kindFound, pageFound, located};
 
 // A chunk by its number in a page of its class. The number is wide so that `Found` is: of 16 bytes or fewer, an enum is passed as one
 // integer, and its fields are shifted in and out.
@@ -32,39 +35,35 @@ pub enum Found {
     Refused(Refusal),
 }
 
-// The block that begins at the offset, or the number by which a free is refused.
+// The block that begins at the offset, or the number by which a free is refused. Whether a chunk is taken its mark has still to tell.
 pub fn locate(pool: &[u8], w: u8, pages: u16, at: Offset) -> Found
+    requires { ⌜ Whole w (now pool) pages ⌝ }
     ensures { λ r. ⌜ r ≡ located w (now (pool .entry)) pages (at .0) ⌝ }
 {
     let x = at.0;
     if pages as u32 <= x / PAGE {
         return Found::Refused(Refusal::Outside);
     }
-    in_page(
-        pool,
-        w,
-        pages,
-        PageNumber((x / PAGE % 65536) as u16),
-        x % PAGE,
-    )
+    in_page(pool, w, PageNumber((x / PAGE % 65536) as u16), x % PAGE)
 }
 
-fn in_page(pool: &[u8], w: u8, pages: u16, p: PageNumber, within: u32) -> Found
-    ensures { λ r. ⌜ r ≡ pageFound w (now (pool .entry)) pages (p .0) within ⌝ }
+fn in_page(pool: &[u8], w: u8, p: PageNumber, within: u32) -> Found
+    requires { ⌜ linksPlace w (p .0) < length (now pool) / 8 ⌝ }
+    ensures { λ r. ⌜ r ≡ pageFound w (now (pool .entry)) (p .0) within ⌝ }
 {
-    let l = record_page::get_links(pool, w, p);
-    in_kind(pool, w, pages, p, within, l)
+    let l = record_page::get_links_in(pool, w, p);
+    in_kind(p, within, l)
 }
 
 // By the page's kind.
-fn in_kind(pool: &[u8], w: u8, pages: u16, p: PageNumber, within: u32, l: Links) -> Found
-    ensures { λ r. ⌜ r ≡ kindFound w (now (pool .entry)) pages (p .0) within l ⌝ }
+fn in_kind(p: PageNumber, within: u32, l: Links) -> Found
+    ensures { λ r. ⌜ r ≡ kindFound (p .0) within l ⌝ }
 {
     if l.kind <= FIRST_FREE {
         return Found::Refused(Refusal::NotTaken);
     }
     if l.kind == CLASS_PAGE {
-        return in_class(pool, w, pages, l.class, p, within);
+        return in_class(l.class, p, within);
     }
     if l.kind == FIRST_TAKEN {
         return in_run(p, l.run, within);
@@ -86,98 +85,55 @@ fn in_run(p: PageNumber, len: u16, within: u32) -> Found
     }
 }
 
-// In a class page. Tried in this order: the class, the chunk's boundary, the map's own chunks, the mark.
-fn in_class(pool: &[u8], w: u8, pages: u16, c: u8, p: PageNumber, within: u32) -> Found
-    ensures { λ r. ⌜ r ≡ classFound w (now (pool .entry)) pages c (p .0) within ⌝ }
+// In a class page. Tried in this order: the class, the chunk's boundary, the map's own chunks.
+fn in_class(c: u8, p: PageNumber, within: u32) -> Found
+    ensures { λ r. ⌜ r ≡ classFound c (p .0) within ⌝ }
 {
     if c <= 8 {
-        chunk_within(pool, w, pages, c, p, within)
+        chunk_within(c, p, within)
     } else {
         Found::Refused(Refusal::NotAStart)
     }
 }
 
-fn chunk_within(pool: &[u8], w: u8, pages: u16, c: u8, p: PageNumber, within: u32) -> Found
+fn chunk_within(c: u8, p: PageNumber, within: u32) -> Found
     requires { ⌜ c ≤ 8 ⌝ }
-    ensures { λ r. ⌜ r ≡ offsetFound w (now (pool .entry)) pages c (p .0) within ⌝ }
+    ensures { λ r. ⌜ r ≡ offsetFound c (p .0) within ⌝ }
 {
     let size = sizes::chunk_size(c);
-    chunk_sized(pool, w, pages, c, p, within, size)
+    chunk_sized(c, p, within, size)
 }
 
 // The chunk of so many bytes that begins `within` bytes into the page, where one does.
-fn chunk_sized(
-    pool: &[u8],
-    w: u8,
-    pages: u16,
-    c: u8,
-    p: PageNumber,
-    within: u32,
-    size: u32,
-) -> Found
+fn chunk_sized(c: u8, p: PageNumber, within: u32, size: u32) -> Found
     requires { ⌜ 1 ≤ size ⌝ }
-    ensures { λ r. ⌜ r ≡ sizedFound w (now (pool .entry)) pages c (p .0) within size ⌝ }
+    ensures { λ r. ⌜ r ≡ sizedFound c (p .0) within size ⌝ }
 {
     if within % size == 0 {
-        chunk_start(pool, w, pages, c, p, (within / size % 65536) as u16)
+        chunk_start(c, p, (within / size % 65536) as u16)
     } else {
         Found::Refused(Refusal::NotAStart)
     }
 }
 
-fn chunk_start(pool: &[u8], w: u8, pages: u16, c: u8, p: PageNumber, i: u16) -> Found
-    ensures { λ r. ⌜ r ≡ startFound w (now (pool .entry)) pages c (p .0) i ⌝ }
+fn chunk_start(c: u8, p: PageNumber, i: u16) -> Found
+    ensures { λ r. ⌜ r ≡ startFound c (p .0) i ⌝ }
 {
     let own = classes::own_count(c);
-    chunk_past(pool, w, pages, c, p, i, own)
+    chunk_past(c, p, i, own)
 }
 
 // Chunk i, where it is past the map's own chunks.
-fn chunk_past(pool: &[u8], w: u8, pages: u16, c: u8, p: PageNumber, i: u16, own: u16) -> Found
-    ensures { λ r. ⌜ r ≡ pastFound w (now (pool .entry)) pages c (p .0) i own ⌝ }
+fn chunk_past(c: u8, p: PageNumber, i: u16, own: u16) -> Found
+    ensures { λ r. ⌜ r ≡ pastFound c (p .0) i own ⌝ }
 {
     if i < own {
         Found::Refused(Refusal::NotAStart)
     } else {
-        chunk_marked(pool, w, pages, c, p, i)
-    }
-}
-
-// Chunk i, where it is taken.
-fn chunk_marked(pool: &[u8], w: u8, pages: u16, c: u8, p: PageNumber, i: u16) -> Found
-    ensures { λ r. ⌜ r ≡ markFound w (now (pool .entry)) pages c (p .0) i ⌝ }
-{
-    if is_marked(pool, w, pages, c, p, i) {
         Found::Chunk(ChunkAt {
             page: PageNumber(p.0),
             class: c,
             index: i as usize,
         })
-    } else {
-        Found::Refused(Refusal::NotTaken)
     }
-}
-
-fn is_marked(pool: &[u8], w: u8, pages: u16, c: u8, p: PageNumber, i: u16) -> bool
-    ensures { λ r. ⌜ r ≡ marked w (now (pool .entry)) pages c (p .0) i ⌝ }
-{
-    if c < 3 {
-        marked_paged(pool, w, pages, c, p, i)
-    } else {
-        marked_recorded(pool, w, pages, c, p, i)
-    }
-}
-
-fn marked_paged(pool: &[u8], w: u8, pages: u16, c: u8, p: PageNumber, i: u16) -> bool
-    requires { ⌜ c < 3 ⌝ }
-    ensures { λ r. ⌜ r ≡ marked w (now (pool .entry)) pages c (p .0) i ⌝ }
-{
-    map_marks::get_mark(pool, map_places::paged_base(w, pages, p, c), i)
-}
-
-fn marked_recorded(pool: &[u8], w: u8, pages: u16, c: u8, p: PageNumber, i: u16) -> bool
-    requires { ⌜ 3 ≤ c ⌝ }
-    ensures { λ r. ⌜ r ≡ marked w (now (pool .entry)) pages c (p .0) i ⌝ }
-{
-    map_marks::get_mark(pool, map_places::recorded_base(w, pages, p, c), i)
 }

@@ -5,6 +5,7 @@ use mathlib.Core.Bool.{Bool, true, false, not}
 use mathlib.Core.List.{List}
 use Prim.Native.Nat.{ℕ, _+_, _*_, _/_, _%_, _≤_, _<_}
 use native.Mathlib.Omega.{arith}
+use lib.Dec.{eqb}
 use lib.ListN.{length}
 use borrow.Author.Tests.{eq-eqb, eqb-true, lt-ltb, le-ltb, not-true, not-false}
 use Rattle.base.specs.Tests.{pick}
@@ -20,8 +21,15 @@ use Rattle.maps.proofs.Words.{word-marks}
 use Rattle.model.specs.Classes.{chunks, own, hasClear, hasTaken}
 use Rattle.model.proofs.Classes.{none-taken, some-taken, large-chunks}
 use Rattle.map_count.specs.Mirror.{mapBits}
-use Rattle.map_occupancy.specs.Mirror.{marksAre, fullMarks, ownMarks, bitFor, isFull, lastFree, lastTaken}
-use Rattle.map_occupancy.proofs.Words.{whole-words}
+use Rattle.map_occupancy.specs.Mirror.{marksAre, fullMarks, ownMarks, isFull, lastFree, lastTaken}
+use Rattle.map_occupancy.proofs.Words.{whole-words, bit-own, free-bits}
+
+-- one of the tests that all must pass, made first
+first-of : (t u : Bool) → (u ≡ true → t ≡ true) → pick t u false ≡ u
+unfolding pick
+first-of t true h = rw (h refl)
+first-of true false h = refl
+first-of false false h = refl
 
 module _ (s : List ℕ) (B : Bytes s) (k c : ℕ) (inside : k + mapBits c / 64 ≤ length s / 8) (m : ℕ → Bool)
     (shown : (i : ℕ) → i < mapBits c → mark s (8 * k) i ≡ m i) where
@@ -77,15 +85,20 @@ module _ (s : List ℕ) (B : Bytes s) (k c : ℕ) (inside : k + mapBits c / 64 �
         full-in b l = unfold fullMarks in lt-ltb b (chunks c) l
 
     module _ (i : ℕ) (inside-page : i < chunks c) where
-      own-bit : bitFor c i ≡ i
-      unfolding bitFor pick
-      own-bit = ⊎-elim (λ (h : c < 3). rw (lt-ltb c 3 h)) (λ (h : 3 ≤ c). rw (le-ltb c 3 h) (omega (arith, large-chunks c h))) (lt? c 3)
+      -- the word that has its bit
+      own-at : i / 64 < mapBits c / 64
+      own-at = omega (arith, whole-words c, chunk-bit i inside-page)
+
+      at-word : (e : ℕ → Bool) → marksAre s k (mapBits c / 64) e ≡ true → eqb (word s (k + i / 64)) (bitsOf (λ b. e (64 * (i / 64) + b)) 64) ≡ true
+      unfolding marksAre
+      at-word e h = all-at _ (mapBits c / 64) h (i / 64) own-at
 
       pub last-free-is : m i ≡ false → lastFree s k c i ≡ not (hasClear c (upd m i true))
       unfolding lastFree
       last-free-is clear =
-          rw own-bit
-          (same-test _ _
+          rw (bit-own c i inside-page)
+          (first-of _ _ (λ h. ap (eqb (word s (k + i / 64))) (sym (free-bits s k c i (i / 64) own-at refl)) ∙ at-word (upd (fullMarks c) i false) h)
+          ∙ same-test _ _
           (λ h. ap not (none-clear (upd m i true) (λ b l. set b l (are (upd (fullMarks c) i false) h b (chunk-bit b l)) (eq? b i))))
           (λ h. those (upd (fullMarks c) i false) (λ b l. same b (not-true _ h) (eq? b i))))
         where
@@ -101,8 +114,9 @@ module _ (s : List ℕ) (B : Bytes s) (k c : ℕ) (inside : k + mapBits c / 64 �
       pub last-taken-is : own c ≤ i → m i ≡ true → ((b : ℕ) → b < own c → m b ≡ true) → lastTaken s k c i ≡ not (hasTaken c (upd m i false))
       unfolding lastTaken
       last-taken-is o set owns =
-          rw own-bit
-          (same-test _ _
+          rw (bit-own c i inside-page)
+          (first-of _ _ (at-word (upd (ownMarks c) i true))
+          ∙ same-test _ _
           (λ h. ap not (decided _ (λ t.
           let (b, x, y, z) = some-taken c (upd m i false) t in clash z (clear b x (are (upd (ownMarks c) i true) h b (chunk-bit b y)) (eq? b i)))))
           (λ h. those (upd (ownMarks c) i true) (λ b a. same b (not-true _ h) (eq? b i) (lt? b (own c)) (lt? b (chunks c)))))

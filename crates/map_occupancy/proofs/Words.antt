@@ -19,10 +19,11 @@ use Rattle.words.specs.Word.{word}
 use Rattle.maps.specs.Bitmap.{bitsOf}
 use Rattle.maps.proofs.Bits.{bits-ext}
 use Rattle.model.specs.Classes.{chunks, own}
+use Rattle.model.proofs.Classes.{large-chunks}
 use Rattle.map_count.specs.Mirror.{mapBits}
 use Rattle.classes.specs.Mirror.{ownWord}
 use Rattle.classes.proofs.Numbers.{chunks-past, chunks-512, own-past, own-small}
-use Rattle.map_occupancy.specs.Mirror.{marksAre, fullMarks, ownMarks, isFull, lastFree, lastTaken, bitFor, expected, wordsAre}
+use Rattle.map_occupancy.specs.Mirror.{marksAre, fullMarks, ownMarks, isFull, lastFree, lastTaken, bitFor, expected, wordsAre, wordsFrom}
 
 -- ---- the words of the classes, by tables; 9 stands for all past 8
 
@@ -141,13 +142,17 @@ module _ (c : ℕ) where
   unfolding mapBits pick
   words-recorded l = rw (le-ltb c 3 l)
 
-  bit-paged : (i : ℕ) → c < 3 → bitFor c i ≡ i
+  pub bit-paged : (i : ℕ) → c < 3 → bitFor c i ≡ i
   unfolding bitFor pick
   bit-paged i l = rw (lt-ltb c 3 l)
 
-  bit-recorded : (i : ℕ) → 3 ≤ c → bitFor c i ≡ i % 64
+  pub bit-recorded : (i : ℕ) → 3 ≤ c → bitFor c i ≡ i % 64
   unfolding bitFor pick
   bit-recorded i l = rw (le-ltb c 3 l)
+
+  -- of a chunk that the page has
+  pub bit-own : (i : ℕ) → i < chunks c → bitFor c i ≡ i
+  bit-own i h = ⊎-elim (λ (l : c < 3). bit-paged i l) (λ (l : 3 ≤ c). bit-recorded i l ∙ omega (arith, large-chunks c l)) (lt? c 3)
 
   own-none-recorded : 3 ≤ c → 0 ≡ ownWord c
   unfolding ownWord own
@@ -218,6 +223,10 @@ module _ (s : List ℕ) (k c : ℕ) where
   every : (x o at j : ℕ) → j ≢ at → expected x x at o j ≡ x
   every x o at j d = ⊎-elim (λ (e : j ≡ 0). expected-first x x at o j d e) (λ (e : j ≢ 0). expected-rest x x at o j d e) (eq? j 0)
 
+  -- word j with mark i clear, as the first word would have it
+  pub free-bits : (i j : ℕ) → j < mapBits c / 64 → j ≡ i / 64 → bitsOf (λ b. upd (fullMarks c) i false (64 * j + b)) 64 ≡ bitsOf (upd (fullMarks c) (i % 64) false) 64
+  free-bits i j l z = same-word (fullMarks c) i j false z ∙ bits-ext _ _ 64 (λ b h. upd-at _ _ (i % 64) false b (full-same c j b l h))
+
   full-bits : (x j : ℕ) → x ≡ bitsOf (fullMarks c) 64 → j < mapBits c / 64 → x ≡ bitsOf (λ b. fullMarks c (64 * j + b)) 64
   full-bits x j e l = e ∙ sym (bits-ext _ _ 64 (λ b h. full-same c j b l h))
 
@@ -226,38 +235,61 @@ module _ (s : List ℕ) (k c : ℕ) where
   full-told x m r e d q =
       q ∙ rw d (alike s k (mapBits c / 64) x x 8 x (fullMarks c) (λ j l. every x x 8 j (λ z. omega (arith, bits-most c)) ∙ full-bits x j e l))
 
-  free-told : (i x o m : ℕ) (r : Bool) → x ≡ bitsOf (fullMarks c) 64 → o ≡ bitAnd x (18446744073709551615 - 9223372036854775808 / 2 ^ (i % 64)) → m ≡ mapBits c / 64
-      → r ≡ wordsAre s k m x x (i / 64) o → r ≡ marksAre s k (mapBits c / 64) (upd (fullMarks c) i false)
-  free-told i x o m r e p d q = q ∙ rw d (alike s k (mapBits c / 64) x x (i / 64) o (upd (fullMarks c) i false) (λ j l. go j l (eq? j (i / 64))))
+  free-odd : (i x o : ℕ) → x ≡ bitsOf (fullMarks c) 64 → o ≡ bitAnd x (18446744073709551615 - 9223372036854775808 / 2 ^ (i % 64)) → o ≡ bitsOf (upd (fullMarks c) (i % 64) false) 64
+  free-odd i x o e p = p ∙ ap (λ (y : ℕ). bitAnd y (18446744073709551615 - 9223372036854775808 / 2 ^ (i % 64))) e ∙ free-word c (i % 64) (omega arith)
+
+  free-told : (i x o m : ℕ) → x ≡ bitsOf (fullMarks c) 64 → o ≡ bitAnd x (18446744073709551615 - 9223372036854775808 / 2 ^ (i % 64)) → m ≡ mapBits c / 64
+      → wordsAre s k m x x (i / 64) o ≡ marksAre s k (mapBits c / 64) (upd (fullMarks c) i false)
+  free-told i x o m e p d = rw d (alike s k (mapBits c / 64) x x (i / 64) o (upd (fullMarks c) i false) (λ j l. go j l (eq? j (i / 64))))
     where
       go : (j : ℕ) → j < mapBits c / 64 → (j ≡ i / 64) ⊎ (j ≢ i / 64) → expected x x (i / 64) o j ≡ bitsOf (λ b. upd (fullMarks c) i false (64 * j + b)) 64
       go j l (inl z) =
-          expected-odd x x (i / 64) o j z ∙ p ∙ ap (λ (y : ℕ). bitAnd y (18446744073709551615 - 9223372036854775808 / 2 ^ (i % 64))) e
-          ∙ free-word c (i % 64) (omega arith)
-          ∙ sym (same-word (fullMarks c) i j false z ∙ bits-ext _ _ 64 (λ b h. upd-at _ _ (i % 64) false b (full-same c j b l h)))
+          expected-odd x x (i / 64) o j z ∙ free-odd i x o e p ∙ sym (free-bits i j l z)
       go j l (inr z) = every x o (i / 64) j z ∙ full-bits x j e l ∙ sym (other-word (fullMarks c) i j false z)
 
-  taken-told : (i x o m : ℕ) (r : Bool) → x ≡ ownWord c → o ≡ bitOr (pick (eqb (i / 64) 0) x 0) (9223372036854775808 / 2 ^ (i % 64)) → m ≡ mapBits c / 64
-      → r ≡ wordsAre s k m x 0 (i / 64) o → r ≡ marksAre s k (mapBits c / 64) (upd (ownMarks c) i true)
-  taken-told i x o m r e p d q = q ∙ rw d (alike s k (mapBits c / 64) x 0 (i / 64) o (upd (ownMarks c) i true) (λ j l. go j (eq? j (i / 64)) (eq? j 0)))
+  -- word i / 64 with mark i set
+  taken-odd : (i x o j : ℕ) → x ≡ ownWord c → o ≡ bitOr (pick (eqb (i / 64) 0) x 0) (9223372036854775808 / 2 ^ (i % 64)) → j ≡ i / 64
+      → o ≡ bitsOf (λ b. upd (ownMarks c) i true (64 * j + b)) 64
+  taken-odd i x o j e p z = go (eq? j 0)
+    where
+      odd : (y : ℕ) → pick (eqb (i / 64) 0) x 0 ≡ y → o ≡ bitOr y (9223372036854775808 / 2 ^ (i % 64))
+      odd y q = p ∙ ap (λ (a : ℕ). bitOr a (9223372036854775808 / 2 ^ (i % 64))) q
+
+      go : (j ≡ 0) ⊎ (j ≢ 0) → o ≡ bitsOf (λ b. upd (ownMarks c) i true (64 * j + b)) 64
+      go (inl y) =
+          odd (ownWord c) (pick-yes _ _ _ (eq-eqb (i / 64) 0 (sym z ∙ y)) ∙ e) ∙ taken-word c (i % 64) (omega arith)
+          ∙ sym (same-word (ownMarks c) i j true z ∙ bits-ext _ _ 64 (λ b h. upd-at _ _ (i % 64) true b (rw y (own-first c b))))
+      go (inr y) =
+          odd (ownWord 3) (pick-no _ _ _ (ne-eqb (i / 64) 0 (λ q. y (z ∙ q))) ∙ own-word-3) ∙ taken-word 3 (i % 64) (omega arith)
+          ∙ sym (same-word (ownMarks c) i j true z ∙ bits-ext _ _ 64 (λ b h. upd-at _ _ (i % 64) true b (own-none c j b y ∙ sym (own-marks-3 b))))
+
+  taken-told : (i x o m : ℕ) → x ≡ ownWord c → o ≡ bitOr (pick (eqb (i / 64) 0) x 0) (9223372036854775808 / 2 ^ (i % 64)) → m ≡ mapBits c / 64
+      → wordsAre s k m x 0 (i / 64) o ≡ marksAre s k (mapBits c / 64) (upd (ownMarks c) i true)
+  taken-told i x o m e p d = rw d (alike s k (mapBits c / 64) x 0 (i / 64) o (upd (ownMarks c) i true) (λ j l. go j (eq? j (i / 64)) (eq? j 0)))
     where
       none : (j : ℕ) → j ≢ 0 → bitsOf (λ b. ownMarks c (64 * j + b)) 64 ≡ 0
       none j h = bits-ext _ (λ b. false) 64 (λ b l. own-none c j b h) ∙ no-bits
 
-      odd : (j y : ℕ) → pick (eqb (i / 64) 0) x 0 ≡ y → o ≡ bitOr y (9223372036854775808 / 2 ^ (i % 64))
-      odd j y z = p ∙ ap (λ (a : ℕ). bitOr a (9223372036854775808 / 2 ^ (i % 64))) z
-
       go : (j : ℕ) → (j ≡ i / 64) ⊎ (j ≢ i / 64) → (j ≡ 0) ⊎ (j ≢ 0) → expected x 0 (i / 64) o j ≡ bitsOf (λ b. upd (ownMarks c) i true (64 * j + b)) 64
-      go j (inl z) (inl y) =
-          expected-odd x 0 (i / 64) o j z ∙ odd j (ownWord c) (pick-yes _ _ _ (eq-eqb (i / 64) 0 (sym z ∙ y)) ∙ e) ∙ taken-word c (i % 64) (omega arith)
-          ∙ sym (same-word (ownMarks c) i j true z ∙ bits-ext _ _ 64 (λ b h. upd-at _ _ (i % 64) true b (rw y (own-first c b))))
-      go j (inl z) (inr y) =
-          expected-odd x 0 (i / 64) o j z ∙ odd j (ownWord 3) (pick-no _ _ _ (ne-eqb (i / 64) 0 (λ q. y (z ∙ q))) ∙ own-word-3) ∙ taken-word 3 (i % 64) (omega arith)
-          ∙ sym (same-word (ownMarks c) i j true z ∙ bits-ext _ _ 64 (λ b h. upd-at _ _ (i % 64) true b (own-none c j b y ∙ sym (own-marks-3 b))))
+      go j (inl z) y = expected-odd x 0 (i / 64) o j z ∙ taken-odd i x o j e p z
       go j (inr z) (inl y) =
           expected-first x 0 (i / 64) o j z y ∙ e ∙ sym (own-word c)
           ∙ sym (other-word (ownMarks c) i j true z ∙ bits-ext _ _ 64 (λ b h. rw y (own-first c b)))
       go j (inr z) (inr y) = expected-rest x 0 (i / 64) o j z y ∙ sym (other-word (ownMarks c) i j true z ∙ none j y)
+
+  -- a word looked at first, and all of them
+  first-then : (at o x : ℕ) (t u : Bool) → o ≡ x → t ≡ u → pick (eqb (word s (k + at)) o) t false ≡ pick (eqb (word s (k + at)) x) u false
+  first-then at o x t u e d = ap (λ (y : ℕ). pick (eqb (word s (k + at)) y) t false) e ∙ ap (λ (b : Bool). pick (eqb (word s (k + at)) x) b false) d
+
+  -- where the map has no other
+  first-alone : (at o x : ℕ) (r u : Bool) → at ≡ 0 → o ≡ x → r ≡ eqb (word s k) o → r ≡ u → r ≡ pick (eqb (word s (k + at)) x) u false
+  first-alone at o x r u z e q d =
+      let y : k + at ≡ k = omega arith in
+      twice r ∙ ap (λ (b : Bool). pick b r false) (q ∙ rw y (ap (eqb (word s k)) e)) ∙ ap (λ (b : Bool). pick (eqb (word s (k + at)) x) b false) d
+    where
+      twice : (b : Bool) → b ≡ pick b b false
+      twice true = unfold pick in refl
+      twice false = unfold pick in refl
 
   -- ---- maps in the page
 
@@ -265,14 +297,17 @@ module _ (s : List ℕ) (k c : ℕ) where
   full-paged-told m r l d q = full-told _ m r (full-paged c l) d q
 
   pub free-paged-told : (i o m : ℕ) (r : Bool) → c < 3 → o ≡ 18446744073709551615 - 9223372036854775808 / 2 ^ (i % 64) → m ≡ mapBits c / 64
-      → r ≡ wordsAre s k m 18446744073709551615 18446744073709551615 (i / 64) o → r ≡ lastFree s k c i
-  unfolding lastFree
-  free-paged-told i o m r l p d q = rw (bit-paged c i l) (free-told i _ o m r (full-paged c l) (p ∙ but-one (i % 64) (omega arith)) d q)
+      → r ≡ wordsFrom s k m 18446744073709551615 18446744073709551615 (i / 64) o → r ≡ lastFree s k c i
+  unfolding lastFree wordsFrom
+  free-paged-told i o m r l p d q =
+      let e = full-paged c l in
+      let f = p ∙ but-one (i % 64) (omega arith) in
+      rw (bit-paged c i l) (q ∙ first-then (i / 64) o _ _ _ (free-odd i _ o e f) (free-told i _ o m e f d))
 
   pub taken-paged-told : (i x o m : ℕ) (r : Bool) → c < 3 → x ≡ ownWord c → o ≡ bitOr (pick (eqb (i / 64) 0) x 0) (9223372036854775808 / 2 ^ (i % 64)) → m ≡ mapBits c / 64
-      → r ≡ wordsAre s k m x 0 (i / 64) o → r ≡ lastTaken s k c i
-  unfolding lastTaken
-  taken-paged-told i x o m r l e p d q = rw (bit-paged c i l) (taken-told i x o m r e p d q)
+      → r ≡ wordsFrom s k m x 0 (i / 64) o → r ≡ lastTaken s k c i
+  unfolding lastTaken wordsFrom
+  taken-paged-told i x o m r l e p d q = rw (bit-paged c i l) (q ∙ first-then (i / 64) o _ _ _ (taken-odd i x o (i / 64) e p refl) (taken-told i x o m e p d))
 
   -- ---- maps in the record
 
@@ -291,15 +326,19 @@ module _ (s : List ℕ) (k c : ℕ) where
       pub free-recorded-told : (x : ℕ) (r : Bool) → x ≡ bitsOf (fullMarks c) 64 → r ≡ eqb (word s k) (bitAnd x (18446744073709551615 - 9223372036854775808 / 2 ^ (i % 64))) → r ≡ lastFree s k c i
       unfolding lastFree
       free-recorded-told x r e q =
+          let o = bitAnd x (18446744073709551615 - 9223372036854775808 / 2 ^ (i % 64)) in
           rw (bit-recorded c i large)
-          (free-told (i % 64) x (bitAnd x (18446744073709551615 - 9223372036854775808 / 2 ^ (i % 64))) (mapBits c / 64) r e (rw low) refl
-          (one-word s k (mapBits c / 64) x x (i % 64 / 64) _ _ r (words-recorded c large) (sym (expected-odd x x (i % 64 / 64) _ 0 none)) q))
+          (first-alone (i % 64 / 64) o _ r _ (sym none) (free-odd i x o e refl) q
+          (one-word s k (mapBits c / 64) x x (i % 64 / 64) o o r (words-recorded c large) (sym (expected-odd x x (i % 64 / 64) o 0 none)) q
+          ∙ free-told (i % 64) x o (mapBits c / 64) e (rw low) refl))
 
       pub taken-recorded-told : (r : Bool) → r ≡ eqb (word s k) (9223372036854775808 / 2 ^ (i % 64)) → r ≡ lastTaken s k c i
       unfolding lastTaken
       taken-recorded-told r q =
+          let o = 9223372036854775808 / 2 ^ (i % 64) in
           let z : _≡_ {A = ℕ} (pick (eqb (i % 64 / 64) 0) 0 0) 0 = pick-yes _ _ _ (eq-eqb (i % 64 / 64) 0 (sym none)) in
+          let f : o ≡ bitOr (pick (eqb (i % 64 / 64) 0) 0 0) (9223372036854775808 / 2 ^ (i % 64 % 64)) = one-mark (i % 64) (omega arith) ∙ rw (z, low) refl in
           rw (bit-recorded c i large)
-          (taken-told (i % 64) 0 (9223372036854775808 / 2 ^ (i % 64)) (mapBits c / 64) r (own-none-recorded c large)
-          (one-mark (i % 64) (omega arith) ∙ rw (z, low) refl) refl
-          (one-word s k (mapBits c / 64) 0 0 (i % 64 / 64) _ _ r (words-recorded c large) (sym (expected-odd 0 0 (i % 64 / 64) _ 0 none)) q))
+          (first-alone (i % 64 / 64) o _ r _ (sym none) (taken-odd (i % 64) 0 o (i % 64 / 64) (own-none-recorded c large) f refl) q
+          (one-word s k (mapBits c / 64) 0 0 (i % 64 / 64) o o r (words-recorded c large) (sym (expected-odd 0 0 (i % 64 / 64) o 0 none)) q
+          ∙ taken-told (i % 64) 0 o (mapBits c / 64) (own-none-recorded c large) f refl))

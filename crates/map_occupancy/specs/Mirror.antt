@@ -29,13 +29,17 @@ bitFor c i = pick (ltb c 3) i (i % 64)
 unfoldable pub isFull : (s : List ℕ) (k c : ℕ) → Bool
 isFull s k c = marksAre s k (mapBits c / 64) (fullMarks c)
 
--- chunk i alone is free
+-- chunk i alone is free; the word that has its bit is looked at first
 unfoldable pub lastFree : (s : List ℕ) (k c i : ℕ) → Bool
-lastFree s k c i = marksAre s k (mapBits c / 64) (upd (fullMarks c) (bitFor c i) false)
+lastFree s k c i =
+    pick (eqb (word s (k + bitFor c i / 64)) (bitsOf (upd (fullMarks c) (i % 64) false) 64))
+    (marksAre s k (mapBits c / 64) (upd (fullMarks c) (bitFor c i) false)) false
 
--- chunk i alone is in a caller's hands
+-- chunk i alone is in a caller's hands; likewise
 unfoldable pub lastTaken : (s : List ℕ) (k c i : ℕ) → Bool
-lastTaken s k c i = marksAre s k (mapBits c / 64) (upd (ownMarks c) (bitFor c i) true)
+lastTaken s k c i =
+    pick (eqb (word s (k + bitFor c i / 64)) (bitsOf (λ b. upd (ownMarks c) (bitFor c i) true (64 * (bitFor c i / 64) + b)) 64))
+    (marksAre s k (mapBits c / 64) (upd (ownMarks c) (bitFor c i) true)) false
 
 -- ---- as the code compares
 
@@ -45,3 +49,7 @@ expected first rest at odd j = pick (eqb j at) odd (pick (eqb j 0) first rest)
 
 unfoldable pub wordsAre : (s : List ℕ) (k m first rest at odd : ℕ) → Bool
 wordsAre s k m first rest at odd = allBelow (λ j. eqb (word s (k + j)) (expected first rest at odd j)) m
+
+-- the same, word `at` first
+unfoldable pub wordsFrom : (s : List ℕ) (k m first rest at odd : ℕ) → Bool
+wordsFrom s k m first rest at odd = pick (eqb (word s (k + at)) odd) (wordsAre s k m first rest at odd) false

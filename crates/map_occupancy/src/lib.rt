@@ -1,13 +1,14 @@
 // Whether a class page is full, or one chunk from full or empty, told by the words of its map. No mark is counted: a map in the page record
 // is one word, and most others differ in the first.
 ghost use mathlib.Core.Path.{_≡_};
-ghost use Prim.Native.Nat.{_/_, _%_, _^_, _≤_, _<_};
+ghost use Prim.Native.Nat.{_+_, _/_, _≤_, _<_};
 ghost use lib.Dec.{eqb};
+ghost use lib.ListN.{length};
 ghost use Rattle.base.specs.Tests.{pick};
 ghost use Rattle.words.specs.Word.{word};
 ghost use Rattle.maps.specs.Bitmap.{bitsOf};
 ghost use Rattle.map_count.specs.Mirror.{mapBits};
-ghost use Rattle.map_occupancy.specs.Mirror.{expected, wordsAre, fullMarks, isFull, lastFree, lastTaken};
+ghost use Rattle.map_occupancy.specs.Mirror.{expected, wordsAre, wordsFrom, fullMarks, isFull, lastFree, lastTaken};
 
 // Each word of the map of a full page of class 0, 1 or 2.
 const FULL: u64 = 18446744073709551615;
@@ -22,19 +23,12 @@ fn full_word(c: u8) -> u64
 }
 
 // The words of a map that lies in the page.
-fn word_count(c: u8) -> usize
+pub fn word_count(c: u8) -> usize
     requires { ⌜ c < 3 ⌝ }
     ensures answer { λ r. ⌜ r ≡ mapBits c / 64 ⌝ }
     ensures bound { λ r. ⌜ r ≤ 8 ⌝ }
 {
     8 >> c
-}
-
-// Mark i in the word that holds it.
-fn mark_word(i: u16) -> u64
-    ensures { λ r. ⌜ r ≡ 9223372036854775808 / 2 ^ (i % 64) ⌝ }
-{
-    9223372036854775808 >> (i % 64)
 }
 
 // Word j of a map that has `odd` as word `at`, and else begins with `first` and goes on with `rest`.
@@ -67,6 +61,26 @@ fn all_words(pool: &[u8], k: usize, m: usize, first: u64, rest: u64, at: usize, 
     true
 }
 
+// The same, where the caller knows that the word is whole.
+fn word_in_is(pool: &[u8], k: usize, v: u64) -> bool
+    requires { ⌜ k < length (now pool) / 8 ⌝ }
+    ensures { λ r. ⌜ r ≡ eqb (word (now (pool .entry)) k) v ⌝ }
+{
+    cells::get_word_in(pool, k) == v
+}
+
+// The words from k on, word `at` first: there most maps differ.
+fn words_from(pool: &[u8], k: usize, m: usize, first: u64, rest: u64, at: usize, odd: u64) -> bool
+    requires { ⌜ (k < 67108864) × (m ≤ 8) × (k + at < length (now pool) / 8) ⌝ }
+    ensures { λ r. ⌜ r ≡ wordsFrom (now (pool .entry)) k m first rest at odd ⌝ }
+{
+    if word_in_is(pool, k + at, odd) {
+        all_words(pool, k, m, first, rest, at, odd)
+    } else {
+        false
+    }
+}
+
 // Whether the page of class c whose map begins with word k is full.
 pub fn is_full(pool: &[u8], k: usize, c: u8) -> bool
     requires { ⌜ k < 67108864 ⌝ }
@@ -75,7 +89,7 @@ pub fn is_full(pool: &[u8], k: usize, c: u8) -> bool
     if c < 3 {
         full_paged(pool, k, c)
     } else {
-        full_recorded(pool, k, c)
+        full_in_record(pool, k, c)
     }
 }
 
@@ -87,28 +101,36 @@ pub fn full_paged(pool: &[u8], k: usize, c: u8) -> bool
     all_words(pool, k, m, FULL, FULL, 8, FULL)
 }
 
-pub fn full_recorded(pool: &[u8], k: usize, c: u8) -> bool
+fn full_in_record(pool: &[u8], k: usize, c: u8) -> bool
     requires { ⌜ 3 ≤ c ⌝ }
     ensures { λ r. ⌜ r ≡ isFull (now (pool .entry)) k c ⌝ }
 {
     word_is(pool, k, full_word(c))
 }
 
+// The same, where the caller knows that the word is whole.
+pub fn full_recorded(pool: &[u8], k: usize, c: u8) -> bool
+    requires { ⌜ (3 ≤ c) × (k < length (now pool) / 8) ⌝ }
+    ensures { λ r. ⌜ r ≡ isFull (now (pool .entry)) k c ⌝ }
+{
+    word_in_is(pool, k, full_word(c))
+}
+
 // Whether chunk i is its only free chunk.
 pub fn last_free_paged(pool: &[u8], k: usize, c: u8, i: u16) -> bool
-    requires { ⌜ (c < 3) × (k < 67108864) ⌝ }
+    requires { ⌜ (c < 3) × (k < 67108864) × (k + i / 64 < length (now pool) / 8) ⌝ }
     ensures { λ r. ⌜ r ≡ lastFree (now (pool .entry)) k c i ⌝ }
 {
     let m = word_count(c);
-    let odd = !mark_word(i);
-    all_words(pool, k, m, FULL, FULL, (i / 64) as usize, odd)
+    let odd = !map_marks::mark_word(i);
+    words_from(pool, k, m, FULL, FULL, (i / 64) as usize, odd)
 }
 
 pub fn last_free_recorded(pool: &[u8], k: usize, c: u8, i: u16) -> bool
-    requires { ⌜ 3 ≤ c ⌝ }
+    requires { ⌜ (3 ≤ c) × (k < length (now pool) / 8) ⌝ }
     ensures { λ r. ⌜ r ≡ lastFree (now (pool .entry)) k c i ⌝ }
 {
-    word_is(pool, k, full_word(c) & !mark_word(i))
+    word_in_is(pool, k, full_word(c) & !map_marks::mark_word(i))
 }
 
 fn first_or_none(at: usize, v: u64) -> u64
@@ -119,19 +141,19 @@ fn first_or_none(at: usize, v: u64) -> u64
 
 // Whether chunk i is the only one in a caller's hands.
 pub fn last_taken_paged(pool: &[u8], k: usize, c: u8, i: u16) -> bool
-    requires { ⌜ (c < 3) × (k < 67108864) ⌝ }
+    requires { ⌜ (c < 3) × (k < 67108864) × (k + i / 64 < length (now pool) / 8) ⌝ }
     ensures { λ r. ⌜ r ≡ lastTaken (now (pool .entry)) k c i ⌝ }
 {
     let own = classes::own_word(c);
     let m = word_count(c);
     let at = (i / 64) as usize;
-    let odd = first_or_none(at, own) | mark_word(i);
-    all_words(pool, k, m, own, 0, at, odd)
+    let odd = first_or_none(at, own) | map_marks::mark_word(i);
+    words_from(pool, k, m, own, 0, at, odd)
 }
 
 pub fn last_taken_recorded(pool: &[u8], k: usize, c: u8, i: u16) -> bool
-    requires { ⌜ 3 ≤ c ⌝ }
+    requires { ⌜ (3 ≤ c) × (k < length (now pool) / 8) ⌝ }
     ensures { λ r. ⌜ r ≡ lastTaken (now (pool .entry)) k c i ⌝ }
 {
-    word_is(pool, k, mark_word(i))
+    word_in_is(pool, k, map_marks::mark_word(i))
 }

@@ -5,7 +5,6 @@ ghost use mathlib.Core.Path.{_≡_};
 ghost use Prim.Native.Nat.{_≤_, _<_};
 ghost use Rattle.rules.specs.Bytes.{mapBase};
 ghost use Rattle.classes.specs.Mirror.{mapWord};
-ghost use Rattle.map_occupancy.specs.Mirror.{lastTaken};
 
 // One of two by where the map lies: in the page, or in its record. The choice is between numbers, so that no branch is made of it.
 fn chosen(c: u8, paged: u16, recorded: u16) -> u16
@@ -45,14 +44,6 @@ pub fn paged_word(w: u8, pages: u16, p: PageNumber, c: u8) -> usize
     1 + 9 * w as usize + 2 * pages as usize + 512 * p.0 as usize
 }
 
-pub fn paged_base(w: u8, pages: u16, p: PageNumber, c: u8) -> u32
-    requires { ⌜ c < 3 ⌝ }
-    ensures { λ r. ⌜ r ≡ mapBase w pages (p .0) c ⌝ }
-{
-    let k = paged_word(w, pages, p, c);
-    8 * k as u32
-}
-
 // In its record.
 pub fn recorded_word(w: u8, pages: u16, p: PageNumber, c: u8) -> usize
     requires { ⌜ 3 ≤ c ⌝ }
@@ -60,27 +51,4 @@ pub fn recorded_word(w: u8, pages: u16, p: PageNumber, c: u8) -> usize
     ensures bound { λ r. ⌜ r < 67108864 ⌝ }
 {
     1 + 9 * w as usize + 2 * p.0 as usize
-}
-
-pub fn recorded_base(w: u8, pages: u16, p: PageNumber, c: u8) -> u32
-    requires { ⌜ 3 ≤ c ⌝ }
-    ensures { λ r. ⌜ r ≡ mapBase w pages (p .0) c ⌝ }
-{
-    let k = recorded_word(w, pages, p, c);
-    8 * k as u32
-}
-
-// Whether chunk i is the only one of page p in a caller's hands.
-pub fn last_taken_paged(pool: &[u8], w: u8, pages: u16, p: PageNumber, c: u8, i: u16) -> bool
-    requires { ⌜ c < 3 ⌝ }
-    ensures { λ r. ⌜ r ≡ lastTaken (now (pool .entry)) (mapWord w pages (p .0) c) c i ⌝ }
-{
-    map_occupancy::last_taken_paged(pool, paged_word(w, pages, p, c), c, i)
-}
-
-pub fn last_taken_recorded(pool: &[u8], w: u8, pages: u16, p: PageNumber, c: u8, i: u16) -> bool
-    requires { ⌜ 3 ≤ c ⌝ }
-    ensures { λ r. ⌜ r ≡ lastTaken (now (pool .entry)) (mapWord w pages (p .0) c) c i ⌝ }
-{
-    map_occupancy::last_taken_recorded(pool, recorded_word(w, pages, p, c), c, i)
 }

@@ -8,28 +8,18 @@ use native.Mathlib.Nat.{pow-suc, div-eq-of-lt, div-eq-of-lt-le}
 use native.Mathlib.Omega.{arith}
 use lib.Count.{leadingZeros, leading-length}
 use lib.Dec.{eqb}
+use lib.ListN.{length}
 use lib.Pow.{pow-mono}
 use borrow.Author.Tests.{not-true, not-false}
-use Rattle.base.specs.Count.{bit}
 use Rattle.base.proofs.Cases.{lt?}
-use Rattle.words.specs.Word.{Bytes, wordAt}
+use Rattle.words.specs.Word.{Bytes, word}
 use Rattle.maps.specs.Bitmap.{mark, bitsOf}
 use Rattle.maps.specs.Mirror.{lowestClear}
-use Rattle.maps.proofs.Bits.{bits-ext, bits-at}
-use Rattle.maps.proofs.Words.{bytes-marks}
-use Rattle.maps.proofs.Search.{Passed, Stopped, search-hit, search-miss, search-done}
+use Rattle.maps.proofs.Bits.{bits-ext, bits-at, bits-not}
+use Rattle.maps.proofs.Words.{word-marks}
+use Rattle.maps.proofs.Search.{Passed, Stopped, search-start, search-hit, search-miss, search-done}
 
 -- ---- a number of marks
-
--- turned over, it has the other marks
-bits-not : (m : ℕ → Bool) (k : ℕ) → bitsOf m k + bitsOf (λ i. not (m i)) k + 1 ≡ 2 ^ k
-unfolding bitsOf
-bits-not m zero = refl
-bits-not m (suc k) = rw (pow-suc 2 k) (go (m k) (bits-not m k))
-  where
-    go : (b : Bool) → bitsOf m k + bitsOf (λ i. not (m i)) k + 1 ≡ 2 ^ k → 2 * bitsOf m k + bit b + (2 * bitsOf (λ i. not (m i)) k + bit (not b)) + 1 ≡ 2 ^ k * 2
-    go true h = omega arith
-    go false h = omega arith
 
 module _ (m : ℕ → Bool) (v : ℕ) (e : v ≡ bitsOf m 64) where
   abbrev a : ℕ
@@ -59,48 +49,65 @@ module _ (m : ℕ → Bool) (v : ℕ) (e : v ≡ bitsOf m 64) where
       let top : a / 2 ^ j ≡ 1 = div-eq-of-lt-le (2 ^ j) (omega (arith, pow-suc 2 j)) (omega (arith, pow-suc 2 j)) in
       not-true _ (sym (clear-at k l) ∙ ap (λ (x : ℕ). eqb (x % 2) 1) top)
 
--- ---- word j of the map at base, as the code reads it
+-- ---- word j of the map that begins with word k, as the code reads it
 
-module _ (s : List ℕ) (B : Bytes s) (base j v : ℕ) (read : v ≡ wordAt s (base + 8 * j)) where
+pub zeros-most : (v : ℕ) → leadingZeros 64 ((2 ^ 64 - 1) - v) ≤ 64
+zeros-most v = let t = leading-length 64 ((2 ^ 64 - 1) - v) (omega arith) in omega (arith, t .1)
+
+module _ (s : List ℕ) (B : Bytes s) (k j v : ℕ) (inside : k + j < length s / 8) (read : v ≡ word s (k + j)) where
   abbrev zeros : ℕ
   zeros = leadingZeros 64 ((2 ^ 64 - 1) - v)
 
-  marks : v ≡ bitsOf (λ i. mark s base (64 * j + i)) 64
-  marks = read ∙ bytes-marks s (base + 8 * j) B ∙ bits-ext _ _ 64 (λ i h. later i)
+  marks : v ≡ bitsOf (λ i. mark s (8 * k) (64 * j + i)) 64
+  marks = read ∙ word-marks s B (k + j) inside ∙ bits-ext _ _ 64 (λ i h. later i)
     where
-      later : (i : ℕ) → mark s (base + 8 * j) i ≡ mark s base (64 * j + i)
+      later : (i : ℕ) → mark s (8 * (k + j)) i ≡ mark s (8 * k) (64 * j + i)
       later i =
           unfold mark in
-          let d : base + (64 * j + i) / 8 ≡ base + 8 * j + i / 8 = omega arith in
+          let d : 8 * k + (64 * j + i) / 8 ≡ 8 * (k + j) + i / 8 = omega arith in
           let r : (64 * j + i) % 8 ≡ i % 8 = omega arith in
           rw (d, r)
 
-  so-far : Passed s base (64 * j) → (k : ℕ) → k < 64 * j + zeros → k < 64 * (j + 1) → mark s base k ≡ true
+  so-far : Passed s (8 * k) (64 * j) → (i : ℕ) → i < 64 * j + zeros → i < 64 * (j + 1) → mark s (8 * k) i ≡ true
   unfolding Passed
-  so-far p k l h =
+  so-far p i l h =
       ⊎-elim
-      (λ a. p k a)
+      (λ a. p i a)
       (λ g.
-      let z : k ≡ 64 * j + (k - 64 * j) = omega arith in
-      ap (mark s base) z ∙ set-before (λ i. mark s base (64 * j + i)) v marks (k - 64 * j) (omega arith) (omega arith))
-      (lt? k (64 * j))
+      let z : i ≡ 64 * j + (i - 64 * j) = omega arith in
+      ap (mark s (8 * k)) z ∙ set-before (λ b. mark s (8 * k) (64 * j + b)) v marks (i - 64 * j) (omega arith) (omega arith))
+      (lt? i (64 * j))
 
-  pub word-set : Passed s base (64 * j) → 64 ≤ zeros → Passed s base (64 * (j + 1))
+  pub word-set : Passed s (8 * k) (64 * j) → 64 ≤ zeros → Passed s (8 * k) (64 * (j + 1))
   unfolding Passed
-  word-set p h k l = so-far p k (omega arith) l
+  word-set p h i l = so-far p i (omega arith) l
 
-  pub word-clear : (n r : ℕ) → Passed s base (64 * j) → zeros < 64 → (64 * j + zeros < n → r ≡ 64 * j + zeros) → (n ≤ 64 * j + zeros → r ≡ n) → r ≡ lowestClear s base n
-  word-clear n r p h inside past =
-      ⊎-elim (λ l. inside l ∙ search-hit s base n _ stopped l) (λ l. past l ∙ search-miss s base n _ stopped l) (lt? (64 * j + zeros) n)
+  pub word-clear : (m : ℕ) → j < m → Passed s (8 * k) (64 * j) → zeros < 64 → 64 * j + zeros ≡ lowestClear s (8 * k) (64 * m)
+  word-clear m g p h = search-hit s (8 * k) (64 * m) _ stopped (omega arith)
     where
-      stopped : Stopped s base n (64 * j + zeros)
+      stopped : Stopped s (8 * k) (64 * m) (64 * j + zeros)
       stopped = record {
-        passed = λ k l _. so-far p k l (omega arith);
-        clear = λ _. clear-there (λ i. mark s base (64 * j + i)) v marks h;
+        passed = λ i l _. so-far p i l (omega arith);
+        clear = λ _. clear-there (λ b. mark s (8 * k) (64 * j + b)) v marks h;
       }
 
 -- after the last word
-pub words-set : (s : List ℕ) (base n j : ℕ) → Passed s base (64 * j) → n ≤ 64 * j → n ≡ lowestClear s base n
-words-set s base n j p h =
+pub words-set : (s : List ℕ) (k m j : ℕ) → Passed s (8 * k) (64 * j) → m ≤ j → 64 * m ≡ lowestClear s (8 * k) (64 * m)
+words-set s k m j p h =
     let e : 64 * j ≡ 8 * (8 * j) = omega arith in
-    search-miss s base n n (search-done s base n (8 * j) (omega arith) (subst (Passed s base) e p)) (omega arith)
+    search-miss s (8 * k) (64 * m) (64 * m) (search-done s (8 * k) (64 * m) (8 * j) (omega arith) (subst (Passed s (8 * k)) e p)) (omega arith)
+
+-- a map of one word
+pub one-word : (s : List ℕ) (B : Bytes s) (k v : ℕ) → k < length s / 8 → v ≡ word s k → leadingZeros 64 ((2 ^ 64 - 1) - v) ≡ lowestClear s (8 * k) 64
+one-word s B k v inside read =
+    ⊎-elim
+    (λ h.
+    let e : leadingZeros 64 ((2 ^ 64 - 1) - v) ≡ 64 * 0 + leadingZeros 64 ((2 ^ 64 - 1) - v) = omega arith in
+    e ∙ word-clear s B k 0 v (omega arith) here 1 (omega arith) (search-start s (8 * k)) h)
+    (λ h.
+    let e : leadingZeros 64 ((2 ^ 64 - 1) - v) ≡ 64 = omega (arith, zeros-most v) in
+    e ∙ words-set s k 1 1 (word-set s B k 0 v (omega arith) here (search-start s (8 * k)) h) (omega arith))
+    (lt? (leadingZeros 64 ((2 ^ 64 - 1) - v)) 64)
+  where
+    here : v ≡ word s (k + 0)
+    here = let z : k + 0 ≡ k = omega arith in read ∙ ap (word s) (sym z)

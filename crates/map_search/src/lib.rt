@@ -6,42 +6,41 @@ ghost use lib.ListN.{length};
 ghost use Rattle.base.specs.Tests.{pick};
 ghost use Rattle.maps.specs.Mirror.{lowestClear};
 
-// The lowest clear mark of a map of n, or n where all are set.
-pub fn lowest_clear(pool: &[u8], base: u32, n: u16) -> u16
-    ensures { λ r. ⌜ r ≡ lowestClear (now (pool .entry)) base n ⌝ }
+// The lowest clear mark of a map of m words from word k on, or their 64 * m marks' number where all are set.
+pub fn lowest_clear(pool: &[u8], k: usize, m: usize) -> u16
+    requires { ⌜ (k < 67108864) × (m ≤ 8) ⌝ }
+    ensures { λ r. ⌜ r ≡ lowestClear (now (pool .entry)) (8 * k) (64 * m) ⌝ }
 {
-    if base as usize + 8 * ((n as usize + 63) / 64) <= pool.len() {
-        by_words(pool, base, n)
+    if k + m <= pool.len() / 8 {
+        by_words(pool, k, m)
     } else {
-        by_bits(pool, base, n)
+        by_bits(pool, 8 * k as u32, 64 * m as u16)
     }
 }
 
 // A word at a time, where all words of the map lie in the slice: as many marks are set before the first clear one as the word turned over
 // has leading zeros.
-fn by_words(pool: &[u8], base: u32, n: u16) -> u16
-    requires { ⌜ base + 8 * ((n + 63) / 64) ≤ length (now pool) ⌝ }
-    ensures { λ r. ⌜ r ≡ lowestClear (now (pool .entry)) base n ⌝ }
+fn by_words(pool: &[u8], k: usize, m: usize) -> u16
+    requires { ⌜ (k + m ≤ length (now pool) / 8) × (m ≤ 8) ⌝ }
+    ensures { λ r. ⌜ r ≡ lowestClear (now (pool .entry)) (8 * k) (64 * m) ⌝ }
 {
-    let first = base as usize;
-    let words = (n as usize + 63) / 64;
     let mut j: usize = 0;
-    while j < words {
-        let k = u64::leading_zeros(!words::get64(pool, first + 8 * j));
-        if k < 64 {
-            return at_most(64 * j + k as usize, n);
+    while j < m {
+        let z = u64::leading_zeros(!cells::get_word_in(pool, k + j));
+        if z < 64 {
+            return (64 * j + z as usize) as u16;
         }
         j += 1;
     }
-    n
+    64 * m as u16
 }
 
-// Clear bits past mark n never answer.
-fn at_most(k: usize, n: u16) -> u16
-    ensures inside { λ r. ⌜ (k < n → r ≡ k) ⌝ }
-    ensures past { λ r. ⌜ (n ≤ k → r ≡ n) ⌝ }
+// The same of a map that is word k, where the caller knows that it is whole.
+pub fn lowest_in(pool: &[u8], k: usize) -> u16
+    requires { ⌜ k < length (now pool) / 8 ⌝ }
+    ensures { λ r. ⌜ r ≡ lowestClear (now (pool .entry)) (8 * k) 64 ⌝ }
 {
-    if k < n as usize { k as u16 } else { n }
+    u64::leading_zeros(!cells::get_word_in(pool, k)) as u16
 }
 
 // Bit by bit, where the last word of the map is cut off by the slice's end: bytes in order, bits from the top, and one hit ends both searches.

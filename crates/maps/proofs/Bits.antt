@@ -1,7 +1,7 @@
--- A number put together from marks, from the top down, and a byte's eight bits.
+-- A number put together from marks, from the top down; a byte's eight bits and a word's 64.
 use mathlib.Core.Path.{_≡_, refl, sym, ap, _∙_}
 use mathlib.Core.Logic.{_⊎_, inl, inr, _≢_}
-use mathlib.Core.Bool.{Bool, true, false}
+use mathlib.Core.Bool.{Bool, true, false, not}
 use Prim.Native.Nat.{ℕ, zero, suc, _+_, _-_, _*_, _/_, _%_, _^_, _≤_, _<_}
 use native.Mathlib.Omega.{arith}
 use native.Mathlib.Nat.{div-eq-of-lt, div-div-eq-div-mul, pow-suc, mul-assoc}
@@ -13,6 +13,7 @@ use Rattle.base.specs.Functions.{upd}
 use Rattle.base.proofs.Cases.{eq?}
 use Rattle.base.proofs.Functions.{upd-same, upd-other}
 use Rattle.maps.specs.Bitmap.{bitOf, bitsOf, withBit}
+use Rattle.maps.specs.Mirror.{wordBit}
 
 -- ---- numbers
 
@@ -56,6 +57,11 @@ bits-at m T i h =
 pub bits-injective : (m m' : ℕ → Bool) (k : ℕ) → bitsOf m k ≡ bitsOf m' k → (i : ℕ) → i < k → m i ≡ m' i
 bits-injective m m' k e i h = sym (bits-at m k i h) ∙ ap (λ (w : ℕ). eqb (w / 2 ^ (k - 1 - i) % 2) 1) e ∙ bits-at m' k i h
 
+pub digit : (y : ℕ) → y < 2 → bit (eqb y 1) ≡ y
+digit zero h = refl
+digit (suc zero) h = refl
+digit (suc (suc y)) h = absurd (omega arith)
+
 -- the first k bits of a number of T bits
 bits-of : (T w k : ℕ) → w < 2 ^ T → k ≤ T → bitsOf (λ i. eqb (w / 2 ^ (T - 1 - i) % 2) 1) k ≡ w / 2 ^ (T - k)
 unfolding bitsOf
@@ -67,11 +73,16 @@ bits-of T w (suc k) small h =
     let g : w / 2 ^ (T - k) ≡ x / 2 = rw (e, pow-suc) (sym (div-div-eq-div-mul w (2 ^ (T - 1 - k)) 2)) in
     let ih = bits-of T w k small (omega arith) in
     rw (ih, f, g, digit (x % 2) (omega arith)) (omega arith)
+
+-- turned over, it has the other marks
+pub bits-not : (m : ℕ → Bool) (k : ℕ) → bitsOf m k + bitsOf (λ i. not (m i)) k + 1 ≡ 2 ^ k
+unfolding bitsOf
+bits-not m zero = refl
+bits-not m (suc k) = rw (pow-suc 2 k) (go (m k) (bits-not m k))
   where
-    digit : (y : ℕ) → y < 2 → bit (eqb y 1) ≡ y
-    digit zero h = refl
-    digit (suc zero) h = refl
-    digit (suc (suc y)) h = absurd (omega arith)
+    go : (b : Bool) → bitsOf m k + bitsOf (λ i. not (m i)) k + 1 ≡ 2 ^ k → 2 * bitsOf m k + bit b + (2 * bitsOf (λ i. not (m i)) k + bit (not b)) + 1 ≡ 2 ^ k * 2
+    go true h = omega arith
+    go false h = omega arith
 
 -- ---- bytes
 
@@ -86,6 +97,12 @@ pub byte-is : (b : ℕ) (m : ℕ → Bool) → b < 256 → ((j : ℕ) → j < 8 
 byte-is b m h e =
     let z : b / 2 ^ 0 ≡ b = omega arith in
     sym z ∙ sym (bits-of 8 b 8 h (omega arith)) ∙ bits-ext (bitOf b) m 8 e
+
+-- a word is
+pub word-is : (v : ℕ) (m : ℕ → Bool) → v < 18446744073709551616 → ((j : ℕ) → j < 64 → wordBit v j ≡ m j) → v ≡ bitsOf m 64
+word-is v m h e =
+    let z : v / 2 ^ 0 ≡ v = omega arith in
+    sym z ∙ sym (bits-of 64 v 64 h (omega arith)) ∙ bits-ext (wordBit v) m 64 e
 
 -- ---- a byte with one bit set or clear
 

@@ -20,6 +20,25 @@ mark-at s base j i h =
     let r : (8 * j + i) % 8 ≡ i = omega arith in
     rw (d, r)
 
+-- mark i is mark i % 64 of its word
+module _ (s : List ℕ) (k i : ℕ) where
+  abbrev here : ℕ
+  here = 8 * (k + i / 64)
+
+  same-byte : here + i % 64 / 8 ≡ 8 * k + i / 8
+  same-byte = omega arith
+
+  same-bit : i % 64 % 8 ≡ i % 8
+  same-bit = omega arith
+
+  pub mark-in-word : mark s here (i % 64) ≡ mark s (8 * k) i
+  unfolding mark
+  mark-in-word = rw (same-byte, same-bit)
+
+  pub withMark-in-word : (v : Bool) → withMark s here (i % 64) v ≡ withMark s (8 * k) i v
+  unfolding withMark
+  withMark-in-word v = rw (same-byte, same-bit)
+
 -- a mark asks only its byte
 pub mark-byte : (s t : List ℕ) (a b i : ℕ) → getD s (a + i / 8) 0 ≡ getD t (b + i / 8) 0 → mark s a i ≡ mark t b i
 unfolding mark

@@ -7,10 +7,10 @@ use native.Mathlib.Omega.{arith}
 use lib.ListN.{length, getD}
 use Rattle.base.specs.Functions.{upd}
 use Rattle.words.specs.Word.{Bytes, wordAt, word, withWord, setWord}
-use Rattle.words.proofs.Laws.{words, word-in, set-in, setWord-back}
+use Rattle.words.proofs.Laws.{words, word-in, set-in, word-small, setWord-back}
 use Rattle.maps.specs.Bitmap.{mark, bitsOf, withMark}
-use Rattle.maps.specs.Mirror.{mapBytes, splice}
-use Rattle.maps.proofs.Bits.{bits-small, bits-join, bits-injective, byte-is}
+use Rattle.maps.specs.Mirror.{wordBit, withWordBit, mapBytes, splice}
+use Rattle.maps.proofs.Bits.{bits-small, bits-join, bits-at, bits-injective, byte-is, word-is}
 use Rattle.maps.proofs.Marks.{mark-at}
 use Rattle.maps.proofs.Maps.{map-unique, map-withMark}
 
@@ -75,3 +75,11 @@ module _ (s : List ℕ) (B : Bytes s) (k : ℕ) (h : k < length s / 8) where
   withMark-word m e i v l =
       let z : s ≡ splice s (8 * k) (mapBytes m 8) = sym (setWord-back s k B) ∙ ap (setWord s k) e ∙ setWord-map m in
       ap (λ (t : List ℕ). withMark t (8 * k) i v) z ∙ map-withMark s (8 * k) 8 (omega arith) m i v l ∙ sym (setWord-map (upd m i v))
+
+  -- as the code does it: a mark is a bit of the word
+  pub bit-mark : (i : ℕ) → i < 64 → wordBit (word s k) i ≡ mark s (8 * k) i
+  bit-mark i l = ap (λ (v : ℕ). wordBit v i) word-marks ∙ bits-at (mark s (8 * k)) 64 i l
+
+  pub bit-stored : (i : ℕ) (v : Bool) → i < 64 → setWord s k (withWordBit (word s k) i v) ≡ withMark s (8 * k) i v
+  unfolding withWordBit
+  bit-stored i v l = sym (withMark-word (wordBit (word s k)) (word-is (word s k) (wordBit (word s k)) (word-small s k B) (λ j h. refl)) i v l)

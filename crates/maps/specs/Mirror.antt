@@ -1,12 +1,21 @@
--- What the code does with chunk maps: the search for a free chunk, and a new page's map.
-use Prim.Native.Nat.{ℕ, zero, suc, _+_, _*_}
+-- What the code does with chunk maps: the bits of a word, the search for a free chunk, and a new page's map.
+use Prim.Native.Nat.{ℕ, zero, suc, _+_, _-_, _*_, _/_, _%_, _^_}
 use mathlib.Core.Bool.{Bool, not}
 use mathlib.Core.List.{List, [], _∷_, _++_}
-use lib.Dec.{leb, ltb}
+use lib.Dec.{eqb, leb, ltb}
 use lib.ListN.{length, take, drop}
+use Rattle.base.specs.Functions.{upd}
 use Rattle.base.specs.Search.{least}
 use Rattle.base.specs.Tests.{pick}
 use Rattle.maps.specs.Bitmap.{mark, bitsOf}
+
+-- bit j of a word, from the top
+abbrev pub wordBit : (v j : ℕ) → Bool
+wordBit v j = eqb (v / 2 ^ (63 - j) % 2) 1
+
+-- a word with its bit j, from the top, set or clear
+unfoldable pub withWordBit : (v j : ℕ) (b : Bool) → ℕ
+withWordBit v j b = bitsOf (upd (wordBit v) j b) 64
 
 -- the lowest of the first n marks that is clear; n where all are set
 unfoldable pub lowestClear : (s : List ℕ) (base n : ℕ) → ℕ

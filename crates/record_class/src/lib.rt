@@ -3,6 +3,9 @@
 use records::ClassRecord;
 use records::PageNumber;
 ghost use mathlib.Core.Path.{_≡_};
+ghost use Prim.Native.Nat.{_/_, _<_};
+ghost use lib.ListN.{length};
+ghost use Rattle.records.specs.Layout.{countsPlace};
 ghost use Rattle.records.specs.Class.{packCounts, packTally, unpackClass, classAt, withClass, packPeak, peakAt, peakSpare, withPeak};
 
 pub fn pack_counts(r: ClassRecord) -> u64
@@ -38,6 +41,15 @@ pub fn get_class(pool: &[u8], w: u8, c: u8) -> ClassRecord
         cells::get_word(pool, records::place(1, w, c as u16)),
         cells::get_word(pool, records::place(2, w, c as u16)),
     )
+}
+
+// The first page alone, where the caller knows that the word is whole.
+pub fn get_first_in(pool: &[u8], w: u8, c: u8) -> PageNumber
+    requires { ⌜ countsPlace w c < length (now pool) / 8 ⌝ }
+    ensures { λ r. ⌜ r .0 ≡ classAt w (now (pool .entry)) c .first .0 ⌝ }
+{
+    let v = cells::get_word_in(pool, records::place(1, w, c as u16));
+    PageNumber((v / 281474976710656 % 65536) as u16)
 }
 
 pub fn get_used(pool: &[u8], w: u8, c: u8) -> u32

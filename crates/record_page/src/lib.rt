@@ -3,6 +3,8 @@
 use records::Links;
 use records::PageNumber;
 ghost use mathlib.Core.Path.{_≡_};
+ghost use Prim.Native.Nat.{_/_, _<_};
+ghost use lib.ListN.{length};
 ghost use Rattle.records.specs.Layout.{linksPlace};
 ghost use Rattle.records.specs.Page.{packLinks, unpackLinks, linksAt, withLinks};
 
@@ -39,6 +41,14 @@ pub fn get_links(pool: &[u8], w: u8, p: PageNumber) -> Links
     ensures { λ r. ⌜ r ≡ linksAt w (now (pool .entry)) (p .0) ⌝ }
 {
     unpack_links(cells::get_word(pool, links_word(w, p)))
+}
+
+// The same, where the caller knows that the word is whole.
+pub fn get_links_in(pool: &[u8], w: u8, p: PageNumber) -> Links
+    requires { ⌜ linksPlace w (p .0) < length (now pool) / 8 ⌝ }
+    ensures { λ r. ⌜ r ≡ linksAt w (now (pool .entry)) (p .0) ⌝ }
+{
+    unpack_links(cells::get_word_in(pool, links_word(w, p)))
 }
 
 pub fn put_links(pool: &mut [u8], w: u8, p: PageNumber, l: Links)

@@ -2,7 +2,7 @@
 use mathlib.Core.Path.{_≡_, refl, sym}
 use mathlib.Core.Logic.{_⊎_, inl, inr}
 use mathlib.Core.Bool.{Bool, true, false, _&&_, not}
-use Prim.Native.Nat.{ℕ, _+_, _-_, _*_, _/_, _^_, _≤_, _<_}
+use Prim.Native.Nat.{ℕ, _+_, _-_, _*_, _%_, _^_, _≤_, _<_}
 use native.Mathlib.Nat.{mul-le-mul}
 use native.Mathlib.Omega.{arith}
 use lib.Dec.{eqb, leb}
@@ -15,14 +15,18 @@ use Rattle.base.proofs.Search.{least-is, any-false}
 use Rattle.model.specs.Classes.{chunk, classOf}
 use Rattle.sizes.specs.Mirror.{upTo64, upTo2048, classFor}
 
+-- as the code shifts, in 32 bits
+abbrev left : ℕ → ℕ
+left c = 1 * 2 ^ (3 + c) % 4294967296
+
 shifted : ℕ → Bool
-shifted c = eqb (2048 / 2 ^ (8 - c)) (chunk c) && (leb (2048 / 2 ^ (8 - c)) 2048 && leb 1 (2048 / 2 ^ (8 - c)))
+shifted c = eqb (left c) (chunk c) && (leb (left c) 2048 && leb 1 (left c))
 
 all-shifted : any (λ c. not (shifted c)) 9 ≡ false
 unfolding shifted any least chunk
 all-shifted = refl
 
-pub chunk-shifted : (c : ℕ) → c ≤ 8 → (2048 / 2 ^ (8 - c) ≡ chunk c) × (2048 / 2 ^ (8 - c) ≤ 2048) × (1 ≤ 2048 / 2 ^ (8 - c))
+pub chunk-shifted : (c : ℕ) → c ≤ 8 → (left c ≡ chunk c) × (left c ≤ 2048) × (1 ≤ left c)
 unfolding shifted
 chunk-shifted c h =
     let t : shifted c ≡ true = not-false (shifted c) (any-false (λ d. not (shifted d)) 9 all-shifted c (omega arith)) in

@@ -7,16 +7,14 @@ ghost use Prim.Native.Nat.{_+_, _*_, _≤_};
 ghost use Rattle.model.specs.Classes.{chunk, pagesFor};
 ghost use Rattle.sizes.specs.Mirror.{classFor};
 
-// The smallest class whose chunk holds the size: by the count of leading zeros, without a choice for each class.
+// The smallest class whose chunk holds the size: by the count of leading zeros, without a choice for each class. Sizes up to 8 all
+// have a 7 here.
 pub fn class_for(size: u32) -> u8
-    requires { ⌜ size ≤ 2048 ⌝ }
+    requires { ⌜ (1 ≤ size) × (size ≤ 2048) ⌝ }
     ensures answer { λ r. ⌜ r ≡ classFor size ⌝ }
     ensures bound { λ r. ⌜ r ≤ 8 ⌝ }
 {
-    if size <= 8 {
-        return 0;
-    }
-    (29 - u32::leading_zeros(size - 1)) as u8
+    (29 - u32::leading_zeros(size - 1 | 7)) as u8
 }
 
 // The size over 4,096, rounded up.
@@ -34,12 +32,12 @@ pub fn offset_in(p: PageNumber, x: u32) -> Offset
     Offset(PAGE * p.0 as u32 + x)
 }
 
-// The bytes of a chunk.
+// The bytes of a chunk; as a power of two written so, products with it become shifts.
 pub fn chunk_size(c: u8) -> u32
     requires { ⌜ c ≤ 8 ⌝ }
     ensures { λ r. ⌜ (r ≡ chunk c) × (r ≤ 2048) × (1 ≤ r) ⌝ }
 {
-    2048 >> (8 - c)
+    1 << (3 + c)
 }
 
 // Chunk i of class c begins so many bytes into its page.

@@ -4,11 +4,11 @@ use borrow.Author.Needs.{needs}
 use Rattle.alloc_sound.proofs.chunk_from.Statement.{statement}
 use Rattle.alloc_sound.proofs.chunk_from.Tie as tie
 
-new-page-requires : tie.Need-new-page-requires
-new-page-requires c κs = search needs
-
 chunk-of-page-requires : tie.Need-chunk-of-page-requires
 chunk-of-page-requires c κs = search needs
+
+new-page-requires : tie.Need-new-page-requires
+new-page-requires c κs = search needs
 
 same-length : tie.Need-same-length
 same-length c = search needs
@@ -27,4 +27,4 @@ returns-2 c = (search picks, search picks)
 pub chunk-from-spec : {M : Type 1} → statement M
 chunk-from-spec =
     tie.close
-    (tie.spec new-page-requires chunk-of-page-requires same-length returns same-length-2 returns-2)
+    (tie.spec chunk-of-page-requires new-page-requires same-length returns same-length-2 returns-2)

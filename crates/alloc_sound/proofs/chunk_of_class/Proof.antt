@@ -1,13 +1,11 @@
 use Rattle.alloc_sound.specs.Mirror.{classOutcome, classSlice}
+use Rattle.alloc_sound.proofs.First.{first-in, first-class}
 use borrow.Author.Needs.{needs}
 use Rattle.alloc_sound.proofs.chunk_of_class.Statement.{statement}
 use Rattle.alloc_sound.proofs.chunk_of_class.Tie as tie
 
-add-first : tie.Need-add-first
-add-first c = search needs
-
-first-requires : tie.Need-first-requires
-first-requires c κs = search needs
+get-first-in-requires : tie.Need-get-first-in-requires
+get-first-in-requires c κs = let b = c .before .before in first-in _ (b .args .pool .now) _ _ (b .pre .1) (b .pre .0)
 
 chunk-from-requires : tie.Need-chunk-from-requires
 chunk-from-requires c κs = search needs
@@ -17,8 +15,11 @@ same-length c = search needs
 
 returns : tie.Need-returns
 unfolding classOutcome classSlice
-returns c = (rw (c .before .before .before .before .first .ensures) at (c .before .before .chunk-from .ensures .0), rw (c .before .before .before .before .first .ensures) at (c .before .before .chunk-from .ensures .1))
+returns c =
+    let t = c .before .before in
+    let p = first-class _ _ _ _ (t .before .before .get-first-in .ensures) in
+    (rw p at (t .chunk-from .ensures .0), rw p at (t .chunk-from .ensures .1))
 
 pub chunk-of-class-spec : {M : Type 1} → statement M
 chunk-of-class-spec =
-    tie.close (tie.spec add-first first-requires chunk-from-requires same-length returns)
+    tie.close (tie.spec get-first-in-requires chunk-from-requires same-length returns)

@@ -1,10 +1,10 @@
 use borrow.Author.Needs.{needs}
-use Rattle.batch.proofs.Serving.{alloc-served}
+use Rattle.batch.proofs.Serving.{whole, alloc-served}
 use Rattle.batch.proofs.serve_alloc.Statement.{statement}
 use Rattle.batch.proofs.serve_alloc.Tie as tie
 
 alloc-sound-requires : tie.Need-alloc-sound-requires
-alloc-sound-requires c κs = search needs
+alloc-sound-requires c κs = whole (c .before .before .pre)
 
 allocated-word-requires : tie.Need-allocated-word-requires
 allocated-word-requires c κs = search needs

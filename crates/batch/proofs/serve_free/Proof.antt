@@ -1,10 +1,10 @@
 use borrow.Author.Needs.{needs}
-use Rattle.batch.proofs.Serving.{free-served}
+use Rattle.batch.proofs.Serving.{whole, free-served}
 use Rattle.batch.proofs.serve_free.Statement.{statement}
 use Rattle.batch.proofs.serve_free.Tie as tie
 
 free-sound-requires : tie.Need-free-sound-requires
-free-sound-requires c κs = search needs
+free-sound-requires c κs = whole (c .before .before .pre)
 
 freed-word-requires : tie.Need-freed-word-requires
 freed-word-requires c κs = search needs

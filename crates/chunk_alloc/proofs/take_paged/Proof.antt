@@ -1,47 +1,59 @@
-use Rattle.chunks.specs.Mirror.{chunkTaken}
-use Rattle.map_places.proofs.Places.{base-word}
+use Rattle.chunk_alloc.proofs.Taken.{last-paged, more-paged}
 use borrow.Author.Needs.{needs}
 use Rattle.chunk_alloc.proofs.take_paged.Statement.{statement}
 use Rattle.chunk_alloc.proofs.take_paged.Tie as tie
 
-paged-word-requires : tie.Need-paged-word-requires
-paged-word-requires c κs = search needs
-
 last-free-paged-requires : tie.Need-last-free-paged-requires
 last-free-paged-requires c κs = search needs
 
-leave-if-full-requires : tie.Need-leave-if-full-requires
-leave-if-full-requires c κs = search needs
+cast-take-last : tie.Need-cast-take-last
+cast-take-last c = search needs
 
-cast-set-mark : tie.Need-cast-set-mark
-cast-set-mark c = search needs
+add-take-last : tie.Need-add-take-last
+add-take-last c = search needs
 
-mul-set-mark : tie.Need-mul-set-mark
-mul-set-mark c = search needs
+take-last-requires : tie.Need-take-last-requires
+take-last-requires c κs = search needs
 
-set-mark-requires : tie.Need-set-mark-requires
-set-mark-requires c κs = search needs
+cast-take : tie.Need-cast-take
+cast-take c = search needs
 
-count-used-requires : tie.Need-count-used-requires
-count-used-requires c κs = search needs
+add-take : tie.Need-add-take
+add-take c = search needs
+
+take-requires : tie.Need-take-requires
+take-requires c κs = search needs
 
 same-length : tie.Need-same-length
 same-length c = search needs
 
 returns : tie.Need-returns
-unfolding chunkTaken
-returns c = rw (base-word _ _ _ _) (rw (c .before .before .before .before .before .before .set-mark .ensures, c .before .before .before .before .before .before .before .before .before .before .leave-if-full .ensures, c .before .before .before .before .before .before .before .before .before .before .before .before .last-free-paged .ensures, c .before .before .before .before .before .before .before .before .before .before .before .before .before .before .paged-word .ensures .0) at (c .before .before .count-used .ensures))
+returns c =
+    let t = c .before .before in
+    let f = t .before .before .before in
+    last-paged _ _ _ _ _ _ _ _ (f .last-free-paged .ensures) (f .before .before .before .pre .0) (t .before .before .if1 .taken) (t .take-last .ensures)
+
+same-length-2 : tie.Need-same-length-2
+same-length-2 c = search needs
+
+returns-2 : tie.Need-returns-2
+returns-2 c =
+    let t = c .before .before in
+    let f = t .before .before .before in
+    more-paged _ _ _ _ _ _ _ _ (f .last-free-paged .ensures) (f .before .before .before .pre .0) (t .before .before .if1 .left) (t .take .ensures)
 
 pub take-paged-spec : {M : Type 1} → statement M
 take-paged-spec =
     tie.close
     (tie.spec
-    paged-word-requires
     last-free-paged-requires
-    leave-if-full-requires
-    cast-set-mark
-    mul-set-mark
-    set-mark-requires
-    count-used-requires
+    cast-take-last
+    add-take-last
+    take-last-requires
+    cast-take
+    add-take
+    take-requires
     same-length
-    returns)
+    returns
+    same-length-2
+    returns-2)

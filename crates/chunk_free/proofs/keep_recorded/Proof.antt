@@ -1,11 +1,7 @@
-use Rattle.chunks.specs.Mirror.{chunkKept}
-use Rattle.map_places.proofs.Places.{base-word}
+use Rattle.chunk_free.proofs.Kept.{kept-recorded}
 use borrow.Author.Needs.{needs}
 use Rattle.chunk_free.proofs.keep_recorded.Statement.{statement}
 use Rattle.chunk_free.proofs.keep_recorded.Tie as tie
-
-recorded-word-requires : tie.Need-recorded-word-requires
-recorded-word-requires c κs = search needs
 
 full-recorded-requires : tie.Need-full-recorded-requires
 full-recorded-requires c κs = search needs
@@ -13,35 +9,30 @@ full-recorded-requires c κs = search needs
 return-if-full-requires : tie.Need-return-if-full-requires
 return-if-full-requires c κs = search needs
 
-cast-clear-mark : tie.Need-cast-clear-mark
-cast-clear-mark c = search needs
-
-mul-clear-mark : tie.Need-mul-clear-mark
-mul-clear-mark c = search needs
-
-clear-mark-requires : tie.Need-clear-mark-requires
-clear-mark-requires c κs = search needs
-
 count-back-requires : tie.Need-count-back-requires
 count-back-requires c κs = search needs
+
+clear-mark-in-requires : tie.Need-clear-mark-in-requires
+clear-mark-in-requires c κs = search needs
 
 same-length : tie.Need-same-length
 same-length c = search needs
 
 returns : tie.Need-returns
-unfolding chunkKept
-returns c = rw (base-word _ _ _ _) (rw (c .before .before .before .before .before .before .clear-mark .ensures, c .before .before .before .before .before .before .before .before .before .before .return-if-full .ensures, c .before .before .before .before .before .before .before .before .before .before .before .before .full-recorded .ensures, c .before .before .before .before .before .before .before .before .before .before .before .before .before .before .recorded-word .ensures .0) at (c .before .before .count-back .ensures))
+returns c =
+    let m = c .before .before in
+    let b = m .before .before .before .before in
+    let r = b .before .before .before .before in
+    let f = r .before .before in
+    kept-recorded _ _ _ _ _ _ _ _ _ _ (f .full-recorded .ensures) (r .return-if-full .ensures) (b .count-back .ensures) (f .before .before .before .pre .0) (m .clear-mark-in .ensures)
 
 pub keep-recorded-spec : {M : Type 1} → statement M
 keep-recorded-spec =
     tie.close
     (tie.spec
-    recorded-word-requires
     full-recorded-requires
     return-if-full-requires
-    cast-clear-mark
-    mul-clear-mark
-    clear-mark-requires
     count-back-requires
+    clear-mark-in-requires
     same-length
     returns)

@@ -1,5 +1,6 @@
 use Rattle.free_sound.specs.Mirror.{freeOutcome, freeSlice}
 use Rattle.free_sound.proofs.Classed.{found-classed}
+use native.Mathlib.Omega.{arith}
 use borrow.Author.Needs.{needs}
 use Rattle.free_sound.proofs.free_sound.Statement.{statement}
 use Rattle.free_sound.proofs.free_sound.Tie as tie
@@ -8,7 +9,10 @@ locate-requires : tie.Need-locate-requires
 locate-requires c κs = search needs
 
 give-requires : tie.Need-give-requires
-give-requires c κs = rw (c .before .locate .ensures) (found-classed _ _ _ _)
+give-requires c κs =
+    let f = c .before in
+    let b = f .before .before .before in
+    (rw (f .locate .ensures) (found-classed _ _ _ _ (omega (arith, b .fits .pages))), b .pre)
 
 same-length : tie.Need-same-length
 same-length c = search needs

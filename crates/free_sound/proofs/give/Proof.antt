@@ -7,7 +7,10 @@ enum-known-f : tie.Need-enum-known-f
 enum-known-f c = search needs
 
 give-chunk-requires : tie.Need-give-chunk-requires
-give-chunk-requires c κs = rw (c .before .before .f .given .1) at (c .before .before .before .before .before .pre)
+give-chunk-requires c κs =
+    let b = c .before .before .before .before .before in
+    let k = rw (c .before .before .f .given .1) at (b .pre .0) in
+    (k .0, k .1, b .pre .1)
 
 enum-known-f-2 : tie.Need-enum-known-f-2
 enum-known-f-2 c = search needs

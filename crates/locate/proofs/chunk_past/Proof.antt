@@ -1,11 +1,7 @@
 use Rattle.locate.specs.Mirror.{pastFound}
 use Rattle.base.proofs.Tests.{picks}
-use borrow.Author.Needs.{needs}
 use Rattle.locate.proofs.chunk_past.Statement.{statement}
 use Rattle.locate.proofs.chunk_past.Tie as tie
-
-chunk-marked-requires : tie.Need-chunk-marked-requires
-chunk-marked-requires c κs = search needs
 
 returns : tie.Need-returns
 unfolding pastFound
@@ -16,4 +12,4 @@ unfolding pastFound
 returns-2 c = search picks
 
 pub chunk-past-spec : {M : Type 1} → statement M
-chunk-past-spec = tie.close (tie.spec chunk-marked-requires returns returns-2)
+chunk-past-spec = tie.close (tie.spec returns returns-2)

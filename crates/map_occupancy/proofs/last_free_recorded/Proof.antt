@@ -9,12 +9,14 @@ full-word-requires c κs = search needs
 mark-word-requires : tie.Need-mark-word-requires
 mark-word-requires c κs = search needs
 
-word-is-requires : tie.Need-word-is-requires
-word-is-requires c κs = search needs
+word-in-is-requires : tie.Need-word-in-is-requires
+word-in-is-requires c κs = search needs
 
 returns : tie.Need-returns
-returns c = let b = c .before .before .before .before in free-recorded-told _ _ _ (b .pre) (b .args .i) _ _ (c .before .before .full-word .ensures) (rw (c .before .mark-word .ensures) at (c .word-is .ensures))
+returns c =
+    let b = c .before .before .before .before in
+    free-recorded-told _ _ _ (b .pre .0) (b .args .i) _ _ (c .before .before .full-word .ensures) (rw (c .before .mark-word .ensures) at (c .word-in-is .ensures))
 
 pub last-free-recorded-spec : {M : Type 1} → statement M
 last-free-recorded-spec =
-    tie.close (tie.spec full-word-requires mark-word-requires word-is-requires returns)
+    tie.close (tie.spec full-word-requires mark-word-requires word-in-is-requires returns)

@@ -1,6 +1,6 @@
+use mathlib.Core.Path.{refl}
 use Rattle.map_occupancy.proofs.Words.{taken-paged-told}
 use borrow.Author.Needs.{needs}
-use mathlib.Core.Path.{refl}
 use Rattle.map_occupancy.proofs.last_taken_paged.Statement.{statement}
 use Rattle.map_occupancy.proofs.last_taken_paged.Tie as tie
 
@@ -19,11 +19,13 @@ first-or-none-requires c κs = search needs
 mark-word-requires : tie.Need-mark-word-requires
 mark-word-requires c κs = search needs
 
-all-words-requires : tie.Need-all-words-requires
-all-words-requires c κs = search needs
+words-from-requires : tie.Need-words-from-requires
+words-from-requires c κs = search needs
 
 returns : tie.Need-returns
-returns c = taken-paged-told _ _ _ _ _ _ _ _ (c .before .before .before .before .before .before .pre .0) (c .before .before .before .before .own-word .ensures) (rw (c .before .before .first-or-none .ensures, c .before .mark-word .ensures) refl) (c .before .before .before .word-count .ensures .0) (c .all-words .ensures)
+returns c =
+    taken-paged-told _ _ _ _ _ _ _ _ (c .before .before .before .before .before .before .pre .0) (c .before .before .before .before .own-word .ensures)
+    (rw (c .before .before .first-or-none .ensures, c .before .mark-word .ensures) refl) (c .before .before .before .word-count .ensures .0) (c .words-from .ensures)
 
 pub last-taken-paged-spec : {M : Type 1} → statement M
 last-taken-paged-spec =
@@ -34,5 +36,5 @@ last-taken-paged-spec =
     cast-at
     first-or-none-requires
     mark-word-requires
-    all-words-requires
+    words-from-requires
     returns)

@@ -1,4 +1,4 @@
-use Prim.Native.Nat.{_+_, _-_, _*_, _≤_}
+use Prim.Native.Nat.{_-_, _*_, _≤_}
 use native.Mathlib.Omega.{arith}
 use borrow.Author.Needs.{needs}
 use Rattle.maps.proofs.Search.{Passed, search-start}
@@ -8,45 +8,40 @@ use Rattle.map_search.proofs.by_words.Tie as tie
 
 -- the invariant: the marks before word j are set
 abbrev Inv-loop : tie.InvT-loop
-Inv-loop pool base n first words j₀ j = Passed pool base (64 * j)
+Inv-loop pool k m j₀ j = Passed pool (8 * k) (64 * j)
 
 abbrev μ-loop : tie.MeasureT-loop
-μ-loop pool base n first words j₀ j = words - j
-
-add-words : tie.Need-add-words Inv-loop μ-loop
-add-words c = omega arith
+μ-loop pool k m j₀ j = m - j
 
 loop-holds : tie.Need-loop-holds Inv-loop μ-loop
 loop-holds c = search-start _ _
 
-mul-get64 : tie.Need-mul-get64 Inv-loop μ-loop
-mul-get64 c = omega arith
+add-get-word-in : tie.Need-add-get-word-in Inv-loop μ-loop
+add-get-word-in c = omega arith
 
-add-get64 : tie.Need-add-get64 Inv-loop μ-loop
-add-get64 c = omega arith
+get-word-in-requires : tie.Need-get-word-in-requires Inv-loop μ-loop
+get-word-in-requires c κs = search needs
 
-get64-requires : tie.Need-get64-requires Inv-loop μ-loop
-get64-requires c κs = search needs
+mul-result : tie.Need-mul-result Inv-loop μ-loop
+mul-result c = omega arith
 
-mul-at-most : tie.Need-mul-at-most Inv-loop μ-loop
-mul-at-most c = omega arith
+cast-result : tie.Need-cast-result Inv-loop μ-loop
+cast-result c = omega arith
 
-cast-at-most : tie.Need-cast-at-most Inv-loop μ-loop
-cast-at-most c = omega arith
+add-result : tie.Need-add-result Inv-loop μ-loop
+add-result c = omega arith
 
-add-at-most : tie.Need-add-at-most Inv-loop μ-loop
-add-at-most c = omega arith
-
-at-most-requires : tie.Need-at-most-requires Inv-loop μ-loop
-at-most-requires c κs = search needs
+cast-result-2 : tie.Need-cast-result-2 Inv-loop μ-loop
+cast-result-2 c = omega arith
 
 returns : tie.Need-returns Inv-loop μ-loop
 returns c =
-    let read = c .before .before in
+    let read = c .before in
     let loop = read .before .before in
-    let entry = loop .before .before in
-    word-clear (entry .args .pool .now) (λ i. loop .before .shared-slice-known .given i .fits) (entry .args .base) (loop .loop .j) _ (read .get64 .ensures) (entry .args .n) _
-    (loop .loop .inv) (c .before .if1 .taken) (c .at-most .ensures .0) (c .at-most .ensures .1)
+    let known = loop .before in
+    let a = known .before .args in
+    word-clear (a .pool .now) (λ i. known .shared-slice-known .given i .fits) (a .k) (loop .loop .j) _ (omega arith) (read .get-word-in .ensures) (a .m)
+    (read .before .loop-test .taken) (loop .loop .inv) (c .if1 .taken)
 
 add-j : tie.Need-add-j Inv-loop μ-loop
 add-j c = omega arith
@@ -58,8 +53,16 @@ loop-again : tie.Need-loop-again Inv-loop μ-loop
 loop-again c =
     let read = c .before in
     let loop = read .before .before in
-    let entry = loop .before .before in
-    word-set (entry .args .pool .now) (λ i. loop .before .shared-slice-known .given i .fits) (entry .args .base) (loop .loop .j) _ (read .get64 .ensures) (loop .loop .inv) (c .if1 .left)
+    let known = loop .before in
+    let a = known .before .args in
+    word-set (a .pool .now) (λ i. known .shared-slice-known .given i .fits) (a .k) (loop .loop .j) _ (omega arith) (read .get-word-in .ensures)
+    (loop .loop .inv) (c .if1 .left)
+
+cast-result-3 : tie.Need-cast-result-3 Inv-loop μ-loop
+cast-result-3 c = omega arith
+
+mul-result-2 : tie.Need-mul-result-2 Inv-loop μ-loop
+mul-result-2 c = omega arith
 
 returns-2 : tie.Need-returns-2 Inv-loop μ-loop
 returns-2 c = words-set _ _ _ (c .before .loop .j) (c .before .loop .inv) (omega arith)
@@ -70,17 +73,17 @@ by-words-spec =
     (tie.spec
     Inv-loop
     μ-loop
-    add-words
     loop-holds
-    mul-get64
-    add-get64
-    get64-requires
-    mul-at-most
-    cast-at-most
-    add-at-most
-    at-most-requires
+    add-get-word-in
+    get-word-in-requires
+    mul-result
+    cast-result
+    add-result
+    cast-result-2
     returns
     add-j
     loop-less
     loop-again
+    cast-result-3
+    mul-result-2
     returns-2)

@@ -1,0 +1,1 @@
+pub mod Marks  -- the mark of chunk i, in the word that has it
