@@ -81,5 +81,18 @@ pagesSlice w s P k = runSlice w s k (fitIn w s P k)
 unfoldable pub allocOutcome : (w : ℕ) (s : List ℕ) (P n : ℕ) → Outcome
 allocOutcome w s P n = pick (eqb n 0) (refused NothingAsked) (pick (leb n 2048) (classOutcome w s P (classFor n)) (pagesOutcome w s P (pagesFor n)))
 
+-- all but the peak
+unfoldable pub takeSlice : (w : ℕ) (s : List ℕ) (P n : ℕ) → List ℕ
+takeSlice w s P n = pick (eqb n 0) s (pick (leb n 2048) (classSlice w s P (classFor n)) (pagesSlice w s P (pagesFor n)))
+
+-- the peak alone, of the class that serves the size
+unfoldable pub peakFor : (w : ℕ) (s : List ℕ) (n : ℕ) → List ℕ
+peakFor w s n = pick (eqb n 0) s (pick (leb n 2048) (peakRaised w s (classFor n)) s)
+
 unfoldable pub allocSlice : (w : ℕ) (s : List ℕ) (P n : ℕ) → List ℕ
 allocSlice w s P n = pick (eqb n 0) s (pick (leb n 2048) (smallSlice w s P (classFor n)) (pagesSlice w s P (pagesFor n)))
+
+-- ---- an answer in 32 bits: an offset, or one of two numbers past every offset
+
+unfoldable pub outcomeOf : ℕ → Outcome
+outcomeOf x = pick (ltb x 4294967294) (granted x) (pick (eqb x 4294967294) (refused NothingAsked) (refused NoRoom))

@@ -8,7 +8,7 @@ use records::NO_PAGE;
 use records::PAGE;
 use records::PageNumber;
 ghost use mathlib.Core.Path.{_≡_};
-ghost use Prim.Native.Nat.{_*_, _%_, _≤_, _<_};
+ghost use Prim.Native.Nat.{_+_, _*_, _%_, _≤_, _<_};
 ghost use Rattle.answers.specs.Outcome.{granted, refused, ofAlloc};
 ghost use Rattle.answers.specs.declared.Refusal.the-variants.{NoRoom};
 ghost use Rattle.model.specs.Classes.{pagesFor};
@@ -16,7 +16,14 @@ ghost use Rattle.sizes.specs.Mirror.{classFor};
 ghost use Rattle.run_extents.specs.Mirror.{runTaken};
 ghost use Rattle.classes.specs.Mirror.{Whole, chunkRefused};
 ghost use Rattle.chunks.specs.Mirror.{pageCut};
-ghost use Rattle.alloc_sound.specs.Mirror.{chunkOutcome, chunkSlice, firstOutcome, cutOutcome, cutSlice, newOutcome, newSlice, fromOutcome, fromSlice, classOutcome, classSlice, smallSlice, runOutcome, runSlice, pagesOutcome, pagesSlice, allocOutcome, allocSlice};
+ghost use Rattle.class_peaks.specs.Mirror.{peakRaised};
+ghost use Rattle.alloc_sound.specs.Mirror.{chunkOutcome, chunkSlice, firstOutcome, cutOutcome, cutSlice, newOutcome, newSlice, fromOutcome, fromSlice, classOutcome, classSlice, runOutcome, runSlice, pagesOutcome, pagesSlice, takeSlice, peakFor, allocOutcome, allocSlice, outcomeOf};
+
+// Blocks are passed up as their offset in a plain number, for which no field is packed and unpacked on the way; two numbers past every
+// offset refuse.
+const NOTHING_ASKED: u32 = 4294967294;
+
+const NO_ROOM: u32 = 4294967295;
 
 // Takes a block of at least `size` bytes (SPEC 4.4).
 pub fn alloc_sound(pool: &mut [u8], w: u8, pages: u16, size: u32) -> Allocated
@@ -24,8 +31,83 @@ pub fn alloc_sound(pool: &mut [u8], w: u8, pages: u16, size: u32) -> Allocated
     ensures answer { λ r. ⌜ ofAlloc r ≡ allocOutcome w (now (pool .entry)) pages size ⌝ }
     ensures slice { λ _. ⌜ now (pool .exit) ≡ allocSlice w (now (pool .entry)) pages size ⌝ }
 {
+    let x = take_block(pool, w, pages, size);
+    allocated(x)
+}
+
+fn allocated(x: u32) -> Allocated
+    ensures { λ r. ⌜ ofAlloc r ≡ outcomeOf x ⌝ }
+{
+    if x < NOTHING_ASKED {
+        return Allocated::At(Offset(x));
+    }
+    if x == NOTHING_ASKED {
+        Allocated::Refused(Refusal::NothingAsked)
+    } else {
+        Allocated::Refused(Refusal::NoRoom)
+    }
+}
+
+// Byte x of page p.
+fn block(p: PageNumber, x: u32) -> u32
+    requires { ⌜ x ≤ 268435455 ⌝ }
+    ensures { λ r. ⌜ outcomeOf r ≡ granted (4096 * p .0 + x) ⌝ }
+{
+    PAGE * p.0 as u32 + x
+}
+
+// ---- peaks, in the editions that have them. They are asked for first, so that a batch asks once for all of its requests
+
+fn take_block(pool: &mut [u8], w: u8, pages: u16, size: u32) -> u32
+    requires { ⌜ Whole w (now pool) pages ⌝ }
+    ensures answer { λ r. ⌜ outcomeOf r ≡ allocOutcome w (now (pool .entry)) pages size ⌝ }
+    ensures slice { λ _. ⌜ now (pool .exit) ≡ allocSlice w (now (pool .entry)) pages size ⌝ }
+{
+    if 2 < w {
+        take_peaked(pool, w, pages, size)
+    } else {
+        take(pool, w, pages, size)
+    }
+}
+
+fn take_peaked(pool: &mut [u8], w: u8, pages: u16, size: u32) -> u32
+    requires { ⌜ Whole w (now pool) pages ⌝ }
+    ensures answer { λ r. ⌜ outcomeOf r ≡ allocOutcome w (now (pool .entry)) pages size ⌝ }
+    ensures slice { λ _. ⌜ now (pool .exit) ≡ allocSlice w (now (pool .entry)) pages size ⌝ }
+{
+    let taken = take(pool, w, pages, size);
+    raise_for(pool, w, size);
+    taken
+}
+
+// The peak of the size's class follows.
+fn raise_for(pool: &mut [u8], w: u8, size: u32)
+    ensures { λ _. ⌜ now (pool .exit) ≡ peakFor w (now (pool .entry)) size ⌝ }
+{
     if size == 0 {
-        return Allocated::Refused(Refusal::NothingAsked);
+        return;
+    }
+    if size <= LARGEST_CHUNK {
+        raise_small(pool, w, size);
+    }
+}
+
+fn raise_small(pool: &mut [u8], w: u8, size: u32)
+    requires { ⌜ (1 ≤ size) × (size ≤ 2048) ⌝ }
+    ensures { λ _. ⌜ now (pool .exit) ≡ peakRaised w (now (pool .entry)) (classFor size) ⌝ }
+{
+    class_peaks::raise_peak(pool, w, sizes::class_for(size));
+}
+
+// ---- all but the peak
+
+fn take(pool: &mut [u8], w: u8, pages: u16, size: u32) -> u32
+    requires { ⌜ Whole w (now pool) pages ⌝ }
+    ensures answer { λ r. ⌜ outcomeOf r ≡ allocOutcome w (now (pool .entry)) pages size ⌝ }
+    ensures slice { λ _. ⌜ now (pool .exit) ≡ takeSlice w (now (pool .entry)) pages size ⌝ }
+{
+    if size == 0 {
+        return NOTHING_ASKED;
     }
     if size <= LARGEST_CHUNK {
         alloc_small(pool, w, pages, size)
@@ -36,20 +118,18 @@ pub fn alloc_sound(pool: &mut [u8], w: u8, pages: u16, size: u32) -> Allocated
 
 // ---- a chunk
 
-fn alloc_small(pool: &mut [u8], w: u8, pages: u16, size: u32) -> Allocated
+fn alloc_small(pool: &mut [u8], w: u8, pages: u16, size: u32) -> u32
     requires { ⌜ (1 ≤ size) × (size ≤ 2048) × Whole w (now pool) pages ⌝ }
-    ensures answer { λ r. ⌜ ofAlloc r ≡ classOutcome w (now (pool .entry)) pages (classFor size) ⌝ }
-    ensures slice { λ _. ⌜ now (pool .exit) ≡ smallSlice w (now (pool .entry)) pages (classFor size) ⌝ }
+    ensures answer { λ r. ⌜ outcomeOf r ≡ classOutcome w (now (pool .entry)) pages (classFor size) ⌝ }
+    ensures slice { λ _. ⌜ now (pool .exit) ≡ classSlice w (now (pool .entry)) pages (classFor size) ⌝ }
 {
     let c = sizes::class_for(size);
-    let taken = chunk_of_class(pool, w, pages, c);
-    class_peaks::raise_peak(pool, w, c);
-    taken
+    chunk_of_class(pool, w, pages, c)
 }
 
-fn chunk_of_class(pool: &mut [u8], w: u8, pages: u16, c: u8) -> Allocated
+fn chunk_of_class(pool: &mut [u8], w: u8, pages: u16, c: u8) -> u32
     requires { ⌜ (c ≤ 8) × Whole w (now pool) pages ⌝ }
-    ensures answer { λ r. ⌜ ofAlloc r ≡ classOutcome w (now (pool .entry)) pages c ⌝ }
+    ensures answer { λ r. ⌜ outcomeOf r ≡ classOutcome w (now (pool .entry)) pages c ⌝ }
     ensures slice { λ _. ⌜ now (pool .exit) ≡ classSlice w (now (pool .entry)) pages c ⌝ }
 {
     let p = record_class::get_first_in(pool, w, c);
@@ -58,9 +138,9 @@ fn chunk_of_class(pool: &mut [u8], w: u8, pages: u16, c: u8) -> Allocated
 
 // Of page p, the first on the class list, or of a new page where the list is empty. The test is against the page count, which says
 // both that there is a page and that its record is whole.
-fn chunk_from(pool: &mut [u8], w: u8, pages: u16, c: u8, p: PageNumber) -> Allocated
+fn chunk_from(pool: &mut [u8], w: u8, pages: u16, c: u8, p: PageNumber) -> u32
     requires { ⌜ (c ≤ 8) × Whole w (now pool) pages ⌝ }
-    ensures answer { λ r. ⌜ ofAlloc r ≡ fromOutcome w (now (pool .entry)) pages c (p .0) ⌝ }
+    ensures answer { λ r. ⌜ outcomeOf r ≡ fromOutcome w (now (pool .entry)) pages c (p .0) ⌝ }
     ensures slice { λ _. ⌜ now (pool .exit) ≡ fromSlice w (now (pool .entry)) pages c (p .0) ⌝ }
 {
     if p.0 < pages {
@@ -71,28 +151,28 @@ fn chunk_from(pool: &mut [u8], w: u8, pages: u16, c: u8, p: PageNumber) -> Alloc
 }
 
 // The lowest free chunk of page p.
-fn chunk_of_page(pool: &mut [u8], w: u8, pages: u16, c: u8, p: PageNumber) -> Allocated
+fn chunk_of_page(pool: &mut [u8], w: u8, pages: u16, c: u8, p: PageNumber) -> u32
     requires { ⌜ (c ≤ 8) × (p .0 < pages) × Whole w (now pool) pages ⌝ }
-    ensures answer { λ r. ⌜ ofAlloc r ≡ chunkOutcome w (now (pool .entry)) pages c (p .0) ⌝ }
+    ensures answer { λ r. ⌜ outcomeOf r ≡ chunkOutcome w (now (pool .entry)) pages c (p .0) ⌝ }
     ensures slice { λ _. ⌜ now (pool .exit) ≡ chunkSlice w (now (pool .entry)) pages c (p .0) ⌝ }
 {
     let i = chunk_alloc::alloc_chunk(pool, w, pages, c, p);
     let x = sizes::chunk_start(c, i);
-    Allocated::At(sizes::offset_in(p, x))
+    block(p, x)
 }
 
-fn new_page(pool: &mut [u8], w: u8, pages: u16, c: u8) -> Allocated
+fn new_page(pool: &mut [u8], w: u8, pages: u16, c: u8) -> u32
     requires { ⌜ c ≤ 8 ⌝ }
-    ensures answer { λ r. ⌜ ofAlloc r ≡ newOutcome w (now (pool .entry)) pages c ⌝ }
+    ensures answer { λ r. ⌜ outcomeOf r ≡ newOutcome w (now (pool .entry)) pages c ⌝ }
     ensures slice { λ _. ⌜ now (pool .exit) ≡ newSlice w (now (pool .entry)) pages c ⌝ }
 {
     let p = run_extents::first_fit(pool, w, pages, 1);
     cut_or_refuse(pool, w, pages, c, p)
 }
 
-fn cut_or_refuse(pool: &mut [u8], w: u8, pages: u16, c: u8, p: PageNumber) -> Allocated
+fn cut_or_refuse(pool: &mut [u8], w: u8, pages: u16, c: u8, p: PageNumber) -> u32
     requires { ⌜ c ≤ 8 ⌝ }
-    ensures answer { λ r. ⌜ ofAlloc r ≡ cutOutcome c (p .0) ⌝ }
+    ensures answer { λ r. ⌜ outcomeOf r ≡ cutOutcome c (p .0) ⌝ }
     ensures slice { λ _. ⌜ now (pool .exit) ≡ cutSlice w (now (pool .entry)) pages c (p .0) ⌝ }
 {
     if p.0 == NO_PAGE {
@@ -103,30 +183,30 @@ fn cut_or_refuse(pool: &mut [u8], w: u8, pages: u16, c: u8, p: PageNumber) -> Al
 }
 
 // A refused chunk is counted.
-fn no_chunk(pool: &mut [u8], w: u8, c: u8) -> Allocated
-    ensures answer { λ r. ⌜ ofAlloc r ≡ refused NoRoom ⌝ }
+fn no_chunk(pool: &mut [u8], w: u8, c: u8) -> u32
+    ensures answer { λ r. ⌜ outcomeOf r ≡ refused NoRoom ⌝ }
     ensures slice { λ _. ⌜ now (pool .exit) ≡ chunkRefused w (now (pool .entry)) c ⌝ }
 {
     class_counting::refuse_chunk(pool, w, c);
-    Allocated::Refused(Refusal::NoRoom)
+    NO_ROOM
 }
 
 // The first chunk past the map.
-fn chunk_of_new_page(pool: &mut [u8], w: u8, pages: u16, c: u8, p: PageNumber) -> Allocated
+fn chunk_of_new_page(pool: &mut [u8], w: u8, pages: u16, c: u8, p: PageNumber) -> u32
     requires { ⌜ c ≤ 8 ⌝ }
-    ensures answer { λ r. ⌜ ofAlloc r ≡ firstOutcome c (p .0) ⌝ }
+    ensures answer { λ r. ⌜ outcomeOf r ≡ firstOutcome c (p .0) ⌝ }
     ensures slice { λ _. ⌜ now (pool .exit) ≡ pageCut w (now (pool .entry)) pages c (p .0) ⌝ }
 {
     chunk_alloc::cut_page(pool, w, pages, c, p);
     let i = classes::own_count(c);
     let x = sizes::chunk_start(c, i);
-    Allocated::At(sizes::offset_in(p, x))
+    block(p, x)
 }
 
 // ---- whole pages
 
-fn alloc_large(pool: &mut [u8], w: u8, pages: u16, size: u32) -> Allocated
-    ensures answer { λ r. ⌜ ofAlloc r ≡ pagesOutcome w (now (pool .entry)) pages (pagesFor size) ⌝ }
+fn alloc_large(pool: &mut [u8], w: u8, pages: u16, size: u32) -> u32
+    ensures answer { λ r. ⌜ outcomeOf r ≡ pagesOutcome w (now (pool .entry)) pages (pagesFor size) ⌝ }
     ensures slice { λ _. ⌜ now (pool .exit) ≡ pagesSlice w (now (pool .entry)) pages (pagesFor size) ⌝ }
 {
     let k = sizes::pages_for(size);
@@ -134,28 +214,28 @@ fn alloc_large(pool: &mut [u8], w: u8, pages: u16, size: u32) -> Allocated
 }
 
 // k pages, of the first run on the list that has as many.
-fn run_of_pages(pool: &mut [u8], w: u8, pages: u16, k: u32) -> Allocated
-    ensures answer { λ r. ⌜ ofAlloc r ≡ pagesOutcome w (now (pool .entry)) pages k ⌝ }
+fn run_of_pages(pool: &mut [u8], w: u8, pages: u16, k: u32) -> u32
+    ensures answer { λ r. ⌜ outcomeOf r ≡ pagesOutcome w (now (pool .entry)) pages k ⌝ }
     ensures slice { λ _. ⌜ now (pool .exit) ≡ pagesSlice w (now (pool .entry)) pages k ⌝ }
 {
     let p = run_extents::first_fit(pool, w, pages, k);
     run_from(pool, w, k, p)
 }
 
-fn run_from(pool: &mut [u8], w: u8, k: u32, p: PageNumber) -> Allocated
-    ensures answer { λ r. ⌜ ofAlloc r ≡ runOutcome (p .0) ⌝ }
+fn run_from(pool: &mut [u8], w: u8, k: u32, p: PageNumber) -> u32
+    ensures answer { λ r. ⌜ outcomeOf r ≡ runOutcome (p .0) ⌝ }
     ensures slice { λ _. ⌜ now (pool .exit) ≡ runSlice w (now (pool .entry)) k (p .0) ⌝ }
 {
     if p.0 == NO_PAGE {
-        return Allocated::Refused(Refusal::NoRoom);
+        return NO_ROOM;
     }
     run_at(pool, w, k, p)
 }
 
-fn run_at(pool: &mut [u8], w: u8, k: u32, p: PageNumber) -> Allocated
-    ensures answer { λ r. ⌜ ofAlloc r ≡ granted (4096 * p .0) ⌝ }
+fn run_at(pool: &mut [u8], w: u8, k: u32, p: PageNumber) -> u32
+    ensures answer { λ r. ⌜ outcomeOf r ≡ granted (4096 * p .0) ⌝ }
     ensures slice { λ _. ⌜ now (pool .exit) ≡ runTaken w (now (pool .entry)) (p .0) (k % 65536) ⌝ }
 {
     run_alloc::take_run(pool, w, p, (k % 65536) as u16);
-    Allocated::At(Offset(PAGE * p.0 as u32))
+    block(p, 0)
 }

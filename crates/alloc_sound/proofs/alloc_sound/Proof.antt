@@ -1,41 +1,19 @@
-use Rattle.alloc_sound.specs.Mirror.{allocOutcome, allocSlice}
-use Rattle.base.proofs.Tests.{picks}
+use mathlib.Core.Path.{_∙_}
 use borrow.Author.Needs.{needs}
 use Rattle.alloc_sound.proofs.alloc_sound.Statement.{statement}
 use Rattle.alloc_sound.proofs.alloc_sound.Tie as tie
 
-returns : tie.Need-returns
-unfolding allocOutcome allocSlice
-returns c = (search picks, search picks)
+take-block-requires : tie.Need-take-block-requires
+take-block-requires c κs = search needs
 
-alloc-small-requires : tie.Need-alloc-small-requires
-alloc-small-requires c κs = search needs
-
-alloc-large-requires : tie.Need-alloc-large-requires
-alloc-large-requires c κs = search needs
+allocated-requires : tie.Need-allocated-requires
+allocated-requires c κs = search needs
 
 same-length : tie.Need-same-length
 same-length c = search needs
 
-returns-2 : tie.Need-returns-2
-unfolding allocOutcome allocSlice
-returns-2 c = (search picks, search picks)
-
-same-length-2 : tie.Need-same-length-2
-same-length-2 c = search needs
-
-returns-3 : tie.Need-returns-3
-unfolding allocOutcome allocSlice
-returns-3 c = (search picks, search picks)
+returns : tie.Need-returns
+returns c = let t = c .before .before .before in (c .allocated .ensures ∙ t .take-block .ensures .0, t .take-block .ensures .1)
 
 pub alloc-sound-spec : {M : Type 1} → statement M
-alloc-sound-spec =
-    tie.close
-    (tie.spec
-    returns
-    alloc-small-requires
-    alloc-large-requires
-    same-length
-    returns-2
-    same-length-2
-    returns-3)
+alloc-sound-spec = tie.close (tie.spec take-block-requires allocated-requires same-length returns)

@@ -12,15 +12,15 @@ own-count-requires c κs = search needs
 chunk-start-requires : tie.Need-chunk-start-requires
 chunk-start-requires c κs = search needs
 
-offset-in-requires : tie.Need-offset-in-requires
-offset-in-requires c κs = search needs
+block-requires : tie.Need-block-requires
+block-requires c κs = search needs
 
 same-length : tie.Need-same-length
 same-length c = search needs
 
 returns : tie.Need-returns
 unfolding firstOutcome
-returns c = (rw (c .offset-in .ensures, c .before .chunk-start .ensures .0, c .before .before .own-count .ensures .0), c .before .before .before .before .before .cut-page .ensures)
+returns c = (rw (c .before .chunk-start .ensures .0, c .before .before .own-count .ensures .0) at (c .block .ensures), c .before .before .before .before .before .cut-page .ensures)
 
 pub chunk-of-new-page-spec : {M : Type 1} → statement M
 chunk-of-new-page-spec =
@@ -29,6 +29,6 @@ chunk-of-new-page-spec =
     cut-page-requires
     own-count-requires
     chunk-start-requires
-    offset-in-requires
+    block-requires
     same-length
     returns)

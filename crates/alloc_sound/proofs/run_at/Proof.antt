@@ -1,4 +1,4 @@
-use mathlib.Core.Path.{refl}
+use Rattle.alloc_sound.proofs.Answers.{page-start}
 use borrow.Author.Needs.{needs}
 use Rattle.alloc_sound.proofs.run_at.Statement.{statement}
 use Rattle.alloc_sound.proofs.run_at.Tie as tie
@@ -9,17 +9,15 @@ cast-take-run c = search needs
 take-run-requires : tie.Need-take-run-requires
 take-run-requires c κs = search needs
 
-cast-t8 : tie.Need-cast-t8
-cast-t8 c = search needs
-
-mul-t10 : tie.Need-mul-t10
-mul-t10 c = search needs
+block-requires : tie.Need-block-requires
+block-requires c κs = search needs
 
 same-length : tie.Need-same-length
 same-length c = search needs
 
 returns : tie.Need-returns
-returns c = (refl, search needs)
+returns c = (page-start _ _ (c .block .ensures), c .before .before .before .take-run .ensures)
 
 pub run-at-spec : {M : Type 1} → statement M
-run-at-spec = tie.close (tie.spec cast-take-run take-run-requires cast-t8 mul-t10 same-length returns)
+run-at-spec =
+    tie.close (tie.spec cast-take-run take-run-requires block-requires same-length returns)

@@ -1,4 +1,6 @@
 use Rattle.alloc_sound.specs.Mirror.{runOutcome, runSlice}
+use mathlib.Core.Path.{_∙_}
+use Rattle.alloc_sound.proofs.Answers.{no-room}
 use Rattle.base.proofs.Tests.{picks}
 use borrow.Author.Needs.{needs}
 use Rattle.alloc_sound.proofs.run_from.Statement.{statement}
@@ -6,7 +8,7 @@ use Rattle.alloc_sound.proofs.run_from.Tie as tie
 
 returns : tie.Need-returns
 unfolding runOutcome runSlice
-returns c = (search picks, search picks)
+returns c = (no-room ∙ search picks, search picks)
 
 run-at-requires : tie.Need-run-at-requires
 run-at-requires c κs = search needs
