@@ -9,7 +9,7 @@ use Rattle.answers.specs.declared.Freed.the-variants as freed
 use Rattle.answers.specs.declared.Batched.{Batched}
 use Rattle.answers.specs.declared.Batched.the-variants as batched
 use Rattle.answers.specs.declared.Refusal.{Refusal}
-use Rattle.answers.specs.declared.Refusal.the-variants.{TooShort, TooLong, NotSound, NoRoom, Outside, NotTaken, NotAStart, Unreadable, ScriptTooLong, NothingAsked, AnswersTooShort, WrongLength, BeyondMending, OtherBlocks, OutOfRange}
+use Rattle.answers.specs.declared.Refusal.the-variants.{TooShort, TooLong, NotSound, NoRoom, Outside, NotTaken, NotAStart, Unreadable, ScriptTooLong, NothingAsked, AnswersTooShort, WrongLength, BeyondMending, OtherBlocks, OutOfRange, TableTooShort}
 
 abbrev pub numberOf : Refusal → ℕ
 numberOf TooShort = 1
@@ -27,6 +27,7 @@ numberOf WrongLength = 12
 numberOf BeyondMending = 13
 numberOf OtherBlocks = 14
 numberOf OutOfRange = 15
+numberOf TableTooShort = 16
 
 pub record Outcome : Type 0 where
   pub number : ℕ

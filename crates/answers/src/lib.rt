@@ -60,6 +60,8 @@ pub enum Refusal {
     OtherBlocks,
     // a gauge, its level or a sample's count is no number of its range
     OutOfRange,
+    // plain engine: a table with fewer than 12 entries
+    TableTooShort,
 }
 
 // The refusal's number (SPEC 5).
@@ -82,5 +84,6 @@ pub fn number(r: Refusal) -> u8
         Refusal::BeyondMending => 13,
         Refusal::OtherBlocks => 14,
         Refusal::OutOfRange => 15,
+        Refusal::TableTooShort => 16,
     }
 }

@@ -1,5 +1,6 @@
-//! The proved script program, run as a user runs it: stated cases, and the
-//! second program's printout for scripts that look random.
+//! The proved script programs, over the packed pool and over the plain
+//! engine, run as a user runs them: stated cases, and the second program's
+//! printout for scripts that look random.
 
 use std::io::Write;
 use std::path::Path;
@@ -9,12 +10,25 @@ use std::thread;
 use reference::{alloc, format, free, run_script};
 use support::{offset, Habit, Rng, ONE};
 
-/// Runs the program on an input and answers what it printed.
+/// What both programs print for an input: the same.
 fn program(input: &[u8]) -> Vec<u8> {
-    let path = Path::new(env!("CARGO_MANIFEST_DIR")).join("../../target/bin/pool_main");
+    let printed = run("pool_main", input);
+    assert!(
+        run("plain_main", input) == printed,
+        "the plain engine prints something else for\n{}",
+        String::from_utf8_lossy(input)
+    );
+    printed
+}
+
+/// Runs a program on an input and answers what it printed.
+fn run(name: &str, input: &[u8]) -> Vec<u8> {
+    let path = Path::new(env!("CARGO_MANIFEST_DIR"))
+        .join("../../target/bin")
+        .join(name);
     assert!(
         path.exists(),
-        "{} is missing: run `rt check pool_main` in the repository's root",
+        "{} is missing: run `rt check {name}` in the repository's root",
         path.display()
     );
     let mut child = Command::new(path)

@@ -1,0 +1,1 @@
+pub mod Alike  -- both engines are the model

@@ -1,0 +1,1 @@
+// The plain engine and the packed pool answer alike: statement and proof.

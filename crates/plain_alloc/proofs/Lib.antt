@@ -1,0 +1,1 @@
+pub mod Fitting  -- the first fit is a run, and begins within the pages; bounds

@@ -1,0 +1,2 @@
+-- The steps of loops that count.
+pub mod Counting

@@ -1,0 +1,31 @@
+use Rattle.base.proofs.Tests.{picks}
+use Rattle.plain_engine.specs.Mirror.{judgedCall, judgedBytes}
+use borrow.Author.Needs.{needs}
+use Rattle.plain_engine.proofs.free_judged.Statement.{statement}
+use Rattle.plain_engine.proofs.free_judged.Tie as tie
+
+is-sound-requires : tie.Need-is-sound-requires
+is-sound-requires c κs = search needs
+
+free-counted-requires : tie.Need-free-counted-requires
+free-counted-requires c κs = (search needs, cc)
+
+same-length : tie.Need-same-length
+same-length c = search needs
+
+returns : tie.Need-returns
+unfolding judgedCall judgedBytes
+returns c = (search picks, search picks)
+
+refuse-as-requires : tie.Need-refuse-as-requires
+refuse-as-requires c κs = search needs
+
+same-length-2 : tie.Need-same-length-2
+same-length-2 c = search needs
+
+returns-2 : tie.Need-returns-2
+unfolding judgedCall judgedBytes
+returns-2 c = (search picks, search picks)
+
+pub free-judged-spec : {M : Type 1} → statement M
+free-judged-spec = tie.close (tie.spec is-sound-requires free-counted-requires same-length returns refuse-as-requires same-length-2 returns-2)

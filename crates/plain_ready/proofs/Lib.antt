@@ -1,0 +1,1 @@
+pub mod Scan  -- the page at the place that the scan finds

@@ -1,0 +1,1 @@
+pub mod Serving  -- a script served line by line
