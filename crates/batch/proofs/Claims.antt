@@ -22,7 +22,7 @@ use Rattle.demands.proofs.Turns.{demand3}
 use Rattle.demands.proofs.BookCorollaries.{next}
 use Rattle.batch.specs.Batch.{callIn, outcomeOn, sliceOn, replyTo, leftBy, replies, leftByAll, batchOutcome, batchPool, batchAnswers}
 use Rattle.batch.specs.Claim.{withCall, callsIn, outcomeIn, fedWith, fedAll, Served, Laws, Claims}
-use Rattle.batch.specs.Mirror.{Validated}
+use Rattle.sound_pools.specs.Sound.{Validated}
 use Rattle.batch.proofs.Serving.{stays-valid}
 use Rattle.batch.proofs.Whole.{is-short, is-unsound, is-granted, pool-is, answers-are}
 use Rattle.batch.proofs.Order.{left-append, replies-append, length-replies}
@@ -54,7 +54,7 @@ module _ (w : ℕ) where
   module _ (wide : 2 ≤ w) (narrow : w ≤ 255) (s : List ℕ) (B : Bytes s) where
     module _ (sound : brokenRule w s ≡ 0) where
       still-sound : (xs : List ℕ) → brokenRule w (leftByAll w s xs) ≡ 0
-      still-sound xs = all-valid (record { wide = wide; narrow = narrow; bytes = B; sound = sound; counted = refl }) xs .sound
+      still-sound xs = all-valid (record { pool = record { wide = wide; narrow = narrow; bytes = B; sound = sound }; counted = refl }) xs .pool .sound
 
       is-served : (xs a : List ℕ) → length xs ≤ length a → Served w s xs a
       unfolding replyTo

@@ -9,9 +9,9 @@ ghost use lib.ListN.{length, drop};
 ghost use Rattle.answers.specs.Outcome.{ofBatch};
 ghost use Rattle.model.specs.Calls.{Alloc, Free};
 ghost use Rattle.demands.specs.Calls.{answered, after};
+ghost use Rattle.sound_pools.specs.Sound.{Validated};
 ghost use Rattle.answer_words.specs.Word.{wordOf};
 ghost use Rattle.batch.specs.Batch.{replyTo, leftBy, replies, leftByAll, batchOutcome, batchPool, batchAnswers};
-ghost use Rattle.batch.specs.Mirror.{Validated};
 
 // One in the upper half of a word, which says what is asked; the lower half has the size or the offset.
 const HALF: u64 = 4294967296;

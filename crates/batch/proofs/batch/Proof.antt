@@ -1,7 +1,7 @@
 use mathlib.Core.Path.{sym}
 use native.Mathlib.Omega.{arith}
 use borrow.Author.Needs.{needs}
-use Rattle.batch.proofs.Serving.{unsound-told, sound-told, validated}
+use Rattle.sound_pools.proofs.Validated.{unsound-told, sound-told, validated}
 use Rattle.batch.proofs.Whole.{is-short, is-unsound, is-done}
 use Rattle.batch.proofs.batch.Statement.{statement}
 use Rattle.batch.proofs.batch.Tie as tie

@@ -6,7 +6,7 @@ use borrow.Author.Needs.{needs}
 use lib.ListN.{length, take, drop, length-set}
 use lib.Seq.{take-all}
 use Rattle.batch.specs.Batch.{replies, leftByAll}
-use Rattle.batch.specs.Mirror.{Validated}
+use Rattle.sound_pools.specs.Sound.{Validated}
 use Rattle.batch.proofs.Serving.{stays-valid}
 use Rattle.batch.proofs.Order.{turn}
 use Rattle.batch.proofs.serve_all.Statement.{statement}

@@ -1,5 +1,6 @@
 use borrow.Author.Needs.{needs}
-use Rattle.batch.proofs.Serving.{whole, alloc-served}
+use Rattle.sound_pools.proofs.Validated.{whole}
+use Rattle.batch.proofs.Serving.{alloc-served}
 use Rattle.batch.proofs.serve_alloc.Statement.{statement}
 use Rattle.batch.proofs.serve_alloc.Tie as tie
 

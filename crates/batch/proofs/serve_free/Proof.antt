@@ -1,5 +1,6 @@
 use borrow.Author.Needs.{needs}
-use Rattle.batch.proofs.Serving.{whole, free-served}
+use Rattle.sound_pools.proofs.Validated.{whole}
+use Rattle.batch.proofs.Serving.{free-served}
 use Rattle.batch.proofs.serve_free.Statement.{statement}
 use Rattle.batch.proofs.serve_free.Tie as tie
 

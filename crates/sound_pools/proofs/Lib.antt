@@ -1,0 +1,2 @@
+pub mod Calls  -- what a call on a sound pool says of the model
+pub mod Validated  -- calls after one validation
