@@ -22,6 +22,8 @@
  * - source and target of a conversion likewise, the source readable and the
  *   target writable too; they share no byte. So are damaged and target of
  *   dnk_mend; damaged and mended of dnk_check_mended are only read.
+ * - offsets of a list are not null either, lie where a uint32_t may, and share
+ *   no byte with the pool.
  * - requests and answers of a batch are not null either, lie where a uint64_t
  *   may, and share no byte with the pool or each other.
  * - One call at a time, and nobody else writes any of the len bytes meanwhile,
@@ -29,9 +31,9 @@
  *   none.
  * - Between calls only blocks' own bytes are written, and the bytes behind the
  *   last page. Header, records and maps are the calls' alone; where somebody
- *   wrote them nevertheless, dnk_alloc, dnk_free and dnk_batch refuse as long
- *   as the records are unsound (DNK_NOT_SOUND). Where links or counts alone were
- *   lost, dnk_mend makes a sound copy.
+ *   wrote them nevertheless, dnk_alloc, dnk_free, dnk_free_all and dnk_batch
+ *   refuse as long as the records are unsound (DNK_NOT_SOUND). Where links or
+ *   counts alone were lost, dnk_mend makes a sound copy.
  * - A block belongs to whoever was answered its offset, until it is freed; its
  *   size is for the host to remember. Offsets hold in every process, wherever
  *   the pool is mapped there; pointers don't.
@@ -85,8 +87,8 @@ extern "C" {
 /*
  * An answer is one word: the refusal's number in the top 8 bits, 24 zero bits,
  * the value in the low 32. The number is 0 where the call was granted, and the
- * value is 0 where it was refused. So an answer below 2^32 is granted and is
- * the value.
+ * value is 0 where it was refused, but for dnk_free_all. So an answer below 2^32
+ * is granted and is the value.
  */
 typedef uint64_t dnk_answer;
 
@@ -153,6 +155,15 @@ dnk_answer dnk_alloc(uint8_t *pool, size_t len, uint32_t size);
  *   DNK_NOT_TAKEN    the chunk is free
  */
 dnk_answer dnk_free(uint8_t *pool, size_t len, uint32_t offset);
+
+/*
+ * Gives back the blocks at all offsets of a list, in order, or none. The value
+ * is their number. Where dnk_free would refuse one of them after those before
+ * it, so an offset that stands twice, nothing changes: the refusal is that of
+ * the first such, and the value is its place in the list, from 0. An unsound
+ * pool is refused with DNK_NOT_SOUND at place 0, also for an empty list.
+ */
+dnk_answer dnk_free_all(uint8_t *pool, size_t len, const uint32_t *offsets, size_t count);
 
 /*
  * A request of a batch is one word: top bit 0 to alloc and 1 to free, 31 zero

@@ -1,9 +1,12 @@
 // The calls for C and other languages: a pool is a pointer and a length, a gauge a struct by value, an answer one word.
 use answers::Offset;
+use free_all::Failed;
+use free_all::FreedAll;
 use gauge::Gauge;
 use gauge_words::GaugeReply;
 ghost use mathlib.Core.Path.{_≡_};
 ghost use lib.ListN.{length};
+ghost use Rattle.answers.specs.Outcome.{numberOf};
 ghost use Rattle.model.specs.Calls.{Alloc, Free};
 ghost use Rattle.rules.specs.Bytes.{brokenRule};
 ghost use Rattle.demands.specs.Calls.{answered, after};
@@ -13,6 +16,8 @@ ghost use Rattle.convert.specs.Convert.{convertOutcome, converted};
 ghost use Rattle.batch.specs.Batch.{batchOutcome, batchPool, batchAnswers};
 ghost use Rattle.mending.specs.Checked.{checkOutcome, mendOutcome, mended};
 ghost use Rattle.gauge.specs.Gauge.{startOutcome, started, sampleOutcome, sampled, tripOutcome};
+ghost use Rattle.free_all_bytes.specs.FreeAll.{freeAllOutcome, freeAllAfter};
+ghost use Rattle.free_all.specs.Outcome.{ofFreeAll};
 
 // Makes a pool of an edition of a slice: the page count, or the refusal.
 #[no_mangle]
@@ -57,6 +62,32 @@ pub extern "C" fn dnk_batch(pool: &mut [u8], requests: &[u64], answers: &mut [u6
     ensures answers { λ _. ⌜ now (answers .exit) ≡ batchAnswers (widthOf (now (pool .entry))) (now (pool .entry)) (now (requests .entry)) (now (answers .entry)) ⌝ }
 {
     answer_words::batched_word(pool::batch(pool, requests, answers))
+}
+
+// Gives back the blocks at all offsets of a list, or none: how many, or the refusal with the place of the first that fails.
+#[no_mangle]
+pub extern "C" fn dnk_free_all(pool: &mut [u8], offsets: &[u32]) -> u64
+    ensures answer { λ r. ⌜ r ≡ wordOf (freeAllOutcome (widthOf (now (pool .entry))) (now (pool .entry)) (now (offsets .entry))) ⌝ }
+    ensures slice { λ _. ⌜ now (pool .exit) ≡ freeAllAfter (widthOf (now (pool .entry))) (now (pool .entry)) (now (offsets .entry)) ⌝ }
+{
+    freed_all_word(pool::free_all(pool, offsets))
+}
+
+fn freed_all_word(f: FreedAll) -> u64
+    ensures { λ r. ⌜ r ≡ wordOf (ofFreeAll f) ⌝ }
+{
+    match f {
+        FreedAll::Blocks(n) => n as u64,
+        FreedAll::Refused(x) => failed_word(x),
+    }
+}
+
+fn failed_word(x: Failed) -> u64
+    ensures { λ r. ⌜ r ≡ wordOf (record { number = numberOf (x .refusal); value = x .place }) ⌝ }
+{
+    let refusal = x.refusal;
+    let place = x.place;
+    answer_words::refusal_word(refusal) + place as u64
 }
 
 // Copies a pool of edition 1 into a second slice as edition 2: the page count, or the refusal.

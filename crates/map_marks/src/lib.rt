@@ -14,6 +14,12 @@ pub fn bit_at(b: u8, i: u16) -> bool
     (b >> (7 - i % 8)) % 2 == 1
 }
 
+fn set_bit(b: u8, i: u16) -> u8
+    ensures { λ r. ⌜ r ≡ withBit b (i % 8) true ⌝ }
+{
+    b | (128 >> (i % 8))
+}
+
 fn clear_bit(b: u8, i: u16) -> u8
     ensures { λ r. ⌜ r ≡ withBit b (i % 8) false ⌝ }
 {
@@ -32,6 +38,15 @@ pub fn get_mark(pool: &[u8], base: u32, i: u16) -> bool
     ensures { λ r. ⌜ r ≡ mark (now (pool .entry)) base i ⌝ }
 {
     bit_at(cells::get_byte(pool, byte_of(base, i)), i)
+}
+
+// Marks chunk i taken; a mark outside the pool is not written.
+pub fn set_mark(pool: &mut [u8], base: u32, i: u16)
+    ensures { λ _. ⌜ now (pool .exit) ≡ withMark (now (pool .entry)) base i true ⌝ }
+{
+    let at = byte_of(base, i);
+    let b = cells::get_byte(pool, at);
+    cells::put_byte(pool, at, set_bit(b, i));
 }
 
 // Marks chunk i free; a mark outside the pool is not written.

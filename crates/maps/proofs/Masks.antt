@@ -25,7 +25,11 @@ pairs t e i j h k =
     let r : (8 * i + j) % 8 ≡ j = omega arith in
     not-false (t i j) (rw (d, r) at (any-false (λ x. not (t (x / 8) (x % 8))) 64 e (8 * i + j) (omega arith)))
 
--- bit j of the complement of the mask of bit i
+-- bit j of the mask of bit i, and of its complement
+mask : (i j : ℕ) → i < 8 → j < 8 → 128 / 2 ^ i / 2 ^ (7 - j) % 2 ≡ bit (eqb j i)
+unfolding any least
+mask i j h k = eqb-true _ _ (pairs (λ i j. eqb (128 / 2 ^ i / 2 ^ (7 - j) % 2) (bit (eqb j i))) refl i j h k)
+
 hole : (i j : ℕ) → i < 8 → j < 8 → (255 - 128 / 2 ^ i) / 2 ^ (7 - j) % 2 ≡ bit (not (eqb j i))
 unfolding any least
 hole i j h k = eqb-true _ _ (pairs (λ i j. eqb ((255 - 128 / 2 ^ i) / 2 ^ (7 - j) % 2) (bit (not (eqb j i)))) refl i j h k)
@@ -49,6 +53,14 @@ and-one zero false h = refl
 and-one (suc zero) true h = refl
 and-one (suc zero) false h = refl
 and-one (suc (suc x)) t h = absurd (omega arith)
+
+pub or-mask : (b i : ℕ) → b < 256 → i < 8 → bitOr b (128 / 2 ^ i) ≡ withBit b i true
+unfolding withBit upd
+or-mask b i h k =
+    byte-is (bitOr b (128 / 2 ^ i)) (upd (bitOf b) i true) (or-lt 8 b (128 / 2 ^ i) h (omega (arith, shr-le 128 i)))
+    (λ j l.
+    rw (or-shr b (128 / 2 ^ i) (7 - j), or-odd (b / 2 ^ (7 - j)) (128 / 2 ^ i / 2 ^ (7 - j)), mask i j k l)
+    (or-one (b / 2 ^ (7 - j) % 2) (eqb j i) (omega arith)))
 
 pub and-mask : (b i : ℕ) → b < 256 → i < 8 → bitAnd b (255 - 128 / 2 ^ i) ≡ withBit b i false
 unfolding withBit upd

@@ -6,6 +6,7 @@ use answers::Formatted;
 use answers::Freed;
 use answers::Offset;
 use answers::Refusal;
+use free_all::FreedAll;
 ghost use mathlib.Core.Path.{_≡_};
 ghost use lib.Dec.{eqb};
 ghost use lib.ListN.{length, getD};
@@ -16,6 +17,8 @@ ghost use Rattle.demands.specs.Calls.{answered, after};
 ghost use Rattle.demands.specs.Editions.{widthOf, formatAsOutcome, formattedAs};
 ghost use Rattle.batch.specs.Batch.{batchOutcome, batchPool, batchAnswers};
 ghost use Rattle.mending.specs.Checked.{checkOutcome, mendOutcome, mended};
+ghost use Rattle.free_all_bytes.specs.FreeAll.{freeAllOutcome, freeAllAfter};
+ghost use Rattle.free_all.specs.Outcome.{ofFreeAll};
 
 // Words of a class record.
 const EDITION_1: u8 = 2;
@@ -111,5 +114,17 @@ pub fn mend(damaged: &[u8], target: &mut [u8]) -> Formatted
         mend::mend(damaged, target, EDITION_2)
     } else {
         mend::mend(damaged, target, EDITION_1)
+    }
+}
+
+// Gives back the blocks at all offsets of a list, or none where single frees in that order would not all succeed (SPEC 17).
+pub fn free_all(pool: &mut [u8], offsets: &[u32]) -> FreedAll
+    ensures answer { λ r. ⌜ ofFreeAll r ≡ freeAllOutcome (widthOf (now (pool .entry))) (now (pool .entry)) (now (offsets .entry)) ⌝ }
+    ensures slice { λ _. ⌜ now (pool .exit) ≡ freeAllAfter (widthOf (now (pool .entry))) (now (pool .entry)) (now (offsets .entry)) ⌝ }
+{
+    if is_second(pool) {
+        free_all::free_all(pool, EDITION_2, offsets)
+    } else {
+        free_all::free_all(pool, EDITION_1, offsets)
     }
 }

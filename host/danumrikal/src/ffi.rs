@@ -1,7 +1,7 @@
 //! The exported functions. The proofs cover them for every pointer and length
 //! that make a slice, which is what the safe functions here pass.
 
-use crate::{Answer, Gauge, Request};
+use crate::{Answer, Gauge, Offset, Request};
 
 /// What a call on a gauge answers, and the gauge afterwards.
 #[repr(C)]
@@ -15,6 +15,7 @@ extern "C" {
     fn dnk_validate(pool: *const u8, len: usize) -> u64;
     fn dnk_alloc(pool: *mut u8, len: usize, size: u32) -> u64;
     fn dnk_free(pool: *mut u8, len: usize, offset: u32) -> u64;
+    fn dnk_free_all(pool: *mut u8, len: usize, offsets: *const Offset, count: usize) -> u64;
     fn dnk_batch(
         pool: *mut u8,
         len: usize,
@@ -55,6 +56,19 @@ pub fn alloc(pool: &mut [u8], size: u32) -> u64 {
 pub fn free(pool: &mut [u8], offset: u32) -> u64 {
     // SAFETY: pointer and length are those of a slice that is lent for the call.
     unsafe { dnk_free(pool.as_mut_ptr(), pool.len(), offset) }
+}
+
+pub fn free_all(pool: &mut [u8], offsets: &[Offset]) -> u64 {
+    // SAFETY: pointers and lengths are those of slices that are lent for the
+    // call and share no byte; an offset is a `u32`.
+    unsafe {
+        dnk_free_all(
+            pool.as_mut_ptr(),
+            pool.len(),
+            offsets.as_ptr(),
+            offsets.len(),
+        )
+    }
 }
 
 pub fn batch(pool: &mut [u8], requests: &[Request], answers: &mut [Answer]) -> u64 {

@@ -32,9 +32,10 @@
 //! processes share a pool, so that nobody else writes any of it while its bytes
 //! are lent, which block is whose and how long, and that between calls nobody
 //! writes header, records and maps. Where somebody does, [`Pool::alloc`],
-//! [`Pool::free`] and [`Pool::batch`] refuse with [`Refusal::NotSound`] as long
-//! as the records are unsound. Where links or counts were lost, [`mend`] makes a
-//! sound copy, and [`check_mended`] tries one, whoever made it.
+//! [`Pool::free`], [`Pool::free_all`] and [`Pool::batch`] refuse with
+//! [`Refusal::NotSound`] as long as the records are unsound. Where links or counts
+//! were lost, [`mend`] makes a sound copy, and [`check_mended`] tries one, whoever
+//! made it.
 
 #![deny(missing_docs)]
 
@@ -42,6 +43,7 @@ mod batch;
 mod convert;
 mod edition;
 mod ffi;
+mod free_all;
 mod gauge;
 mod mend;
 mod pool;
@@ -51,6 +53,7 @@ mod rule;
 pub use batch::{Answer, Request};
 pub use convert::convert;
 pub use edition::Edition;
+pub use free_all::Failed;
 pub use gauge::Gauge;
 pub use mend::{check_mended, mend};
 pub use pool::{check, pages_in_use, peaks, Offset, Pool, CLASSES, MOST_PAGES, PAGE};

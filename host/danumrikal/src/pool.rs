@@ -1,7 +1,7 @@
 use std::fmt;
 use std::ops::Range;
 
-use crate::{ffi, Answer, Edition, Refusal, Request, Rule};
+use crate::{ffi, free_all, Answer, Edition, Failed, Refusal, Request, Rule};
 
 /// Bytes of a page.
 pub const PAGE: usize = 4_096;
@@ -24,6 +24,7 @@ const FREE_PAGES: usize = 4;
 /// assert_eq!(Offset(32).to_string(), "32");
 /// ```
 #[derive(Clone, Copy, Debug, PartialEq, Eq, PartialOrd, Ord, Hash)]
+#[repr(transparent)]
 pub struct Offset(pub u32);
 
 impl fmt::Display for Offset {
@@ -280,6 +281,33 @@ impl<'a> Pool<'a> {
     /// ```
     pub fn free(&mut self, offset: Offset) -> Result<u32, Refusal> {
         answer(ffi::free(self.bytes, offset.0))
+    }
+
+    /// Gives back the blocks at all offsets of a list, in order, and answers how
+    /// many: what a program that died held, say. Where a [`Pool::free`] of one of
+    /// them would be refused after those before it, none is given back.
+    ///
+    /// # Errors
+    ///
+    /// The place of the first that would be refused, and how; an unsound pool is
+    /// refused with [`Refusal::NotSound`] at place 0, also for an empty list.
+    /// Nothing changes.
+    ///
+    /// ```
+    /// use danumrikal::{Edition, Failed, Offset, Pool, Refusal};
+    ///
+    /// let mut bytes = vec![0; Edition::One.length(12)];
+    /// let mut pool = Pool::new(&mut bytes);
+    /// pool.format(Edition::One)?;
+    /// let (a, b) = (pool.alloc(30)?, pool.alloc(10_000)?);
+    /// let twice = Failed { place: 2, refusal: Refusal::NotTaken };
+    /// assert_eq!(pool.free_all(&[a, b, a]), Err(twice));
+    /// assert_eq!(pool.free_all(&[a, b]), Ok(2));
+    /// assert_eq!(pool.free_all(&[]), Ok(0));
+    /// # Ok::<(), Refusal>(())
+    /// ```
+    pub fn free_all(&mut self, offsets: &[Offset]) -> Result<u32, Failed> {
+        free_all::answer(ffi::free_all(self.bytes, offsets))
     }
 
     /// Makes many calls under one validation, each on the pool that the one

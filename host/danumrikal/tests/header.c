@@ -69,6 +69,44 @@ static void other_editions(void)
     }
 }
 
+static dnk_answer refused_at(enum dnk_refusal refusal, uint32_t place)
+{
+    return (dnk_answer)refusal << 56 | place;
+}
+
+/* A list of up to three offsets. */
+static dnk_answer free_list(size_t len, size_t count, uint32_t first, uint32_t second, uint32_t third)
+{
+    const uint32_t offsets[3] = {first, second, third};
+    return dnk_free_all(pool, len, offsets, count);
+}
+
+/* A list is freed whole or not at all. */
+static void lists(uint8_t edition)
+{
+    static uint8_t entry[DNK_POOL_LENGTH(DNK_EDITION_2, 12)];
+    const size_t len = DNK_POOL_LENGTH(edition, 12);
+    memset(pool, 0, len);
+    EXPECT(free_list(len, 0, 0, 0, 0) == refused_at(DNK_NOT_SOUND, 0));
+    EXPECT(free_list(len, 2, 1, 2, 0) == refused_at(DNK_NOT_SOUND, 0));
+    EXPECT(dnk_format(pool, len, edition) == 12);
+    EXPECT(dnk_alloc(pool, len, 2048) == 0);
+    EXPECT(dnk_alloc(pool, len, 8192) == 4096);
+    EXPECT(dnk_alloc(pool, len, 8) == 12288 + 64);
+    memcpy(entry, pool, len);
+    EXPECT(free_list(len, 3, 4096, 0, 4096) == refused_at(DNK_NOT_TAKEN, 2));
+    EXPECT(free_list(len, 2, 0, 5, 0) == refused_at(DNK_NOT_TAKEN, 1));
+    EXPECT(free_list(len, 2, 5, 0, 0) == refused_at(DNK_NOT_A_START, 0));
+    EXPECT(free_list(len, 2, 4096, 8192, 0) == refused_at(DNK_NOT_TAKEN, 1));
+    EXPECT(free_list(len, 2, 0, 8192, 0) == refused_at(DNK_NOT_A_START, 1));
+    EXPECT(free_list(len, 2, 0, 12 * DNK_PAGE, 0) == refused_at(DNK_OUTSIDE, 1));
+    EXPECT(free_list(len, 0, 0, 0, 0) == 0);
+    EXPECT(memcmp(entry, pool, len) == 0);
+    EXPECT(free_list(len, 3, 12288 + 64, 4096, 0) == 3);
+    EXPECT(dnk_validate(pool, len) == 0);
+    EXPECT(dnk_alloc(pool, len, 12 * DNK_PAGE) == 0);
+}
+
 static void single_calls(uint8_t edition)
 {
     const size_t len = DNK_SHORTEST(edition);
@@ -251,6 +289,7 @@ int main(void)
     other_editions();
     for (uint8_t edition = DNK_EDITION_1; edition <= DNK_EDITION_2; edition++) {
         single_calls(edition);
+        lists(edition);
         batches(edition);
         alignment(edition);
         mended(edition);

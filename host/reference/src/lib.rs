@@ -4,8 +4,8 @@
 //! Differential tests and benchmarks hold the proved allocator against it. A
 //! pool is a lent slice of bytes; every call works on that slice in place.
 //!
-//! - [`format()`], [`validate()`], [`alloc()`], [`free()`] and [`batch()`] are the
-//!   calls, on pools of both editions; [`convert()`] leads from the first to the
+//! - [`format()`], [`validate()`], [`alloc()`], [`free()`], [`batch()`] and
+//!   [`free_all()`] are the calls, on pools of both editions; [`convert()`] leads from the first to the
 //!   second.
 //! - [`mend()`] makes a sound copy of a pool whose links or counts were lost, and
 //!   [`check_mended()`] tries one that anybody made.
@@ -20,6 +20,7 @@
 pub mod batch;
 pub mod class;
 pub mod convert;
+pub mod free_all;
 pub mod gauge;
 pub mod layout;
 pub mod mend;
@@ -33,6 +34,7 @@ pub mod view;
 pub use batch::batch;
 pub use class::{need, Class, Need, CLASSES};
 pub use convert::convert;
+pub use free_all::free_all;
 pub use gauge::Gauge;
 pub use layout::{Edition, Layout};
 pub use mend::{check_mended, mend};

@@ -1,0 +1,2 @@
+pub mod Whole  -- the trial's answer and slice are the call's
+pub mod Each  -- the loop of single frees

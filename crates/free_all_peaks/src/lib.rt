@@ -1,0 +1,1 @@
+// A list of frees, done or refused, moves no peak. There is no code.

@@ -1,0 +1,2 @@
+pub mod Mirror  -- the trial on bytes
+pub mod Claim  -- it decides the call
