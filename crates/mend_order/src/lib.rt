@@ -16,6 +16,17 @@ ghost use Rattle.rules.specs.Bytes.{pagesIn, fieldsOf};
 ghost use Rattle.validate_walk.specs.Mirror.{belongs};
 ghost use Rattle.mending.specs.Mirror.{firstFrom, lastBelow, endsRun, nextAnew, prevAnew, pageAnew};
 
+// The code of `validate_walk` in a function of its own, so that validation's is inlined.
+fn on_list(pool: &[u8], w: u8, n: usize, list: u8, p: PageNumber) -> bool
+    requires { ⌜ (n ≡ pagesIn w (now pool)) × (n ≤ 65535) × (shape (fieldsOf w (now pool)) n ≡ true) × (list ≤ 9) ⌝ }
+    ensures { λ r. ⌜ r ≡ belongs (fieldsOf w (now (pool .entry))) n list (p .0) ⌝ }
+{
+    if list == 0 {
+        return validate_walk::is_head(pool, w, n, p);
+    }
+    validate_walk::is_open(pool, w, n, list - 1, p)
+}
+
 // The first of the k pages from a on that belongs on the list.
 pub fn first_from(pool: &[u8], w: u8, n: usize, list: u8, a: u16, k: usize) -> PageNumber
     requires { ⌜ (n ≡ pagesIn w (now pool)) × (n ≤ 65535) × (shape (fieldsOf w (now pool)) n ≡ true) × (list ≤ 9) × (a + k ≤ 65535) ⌝ }
@@ -24,7 +35,7 @@ pub fn first_from(pool: &[u8], w: u8, n: usize, list: u8, a: u16, k: usize) -> P
     let mut at = a;
     let mut left = k;
     while 0 < left {
-        if validate_walk::on_list(pool, w, n, list, PageNumber(at)) {
+        if on_list(pool, w, n, list, PageNumber(at)) {
             return PageNumber(at);
         }
         at += 1;
@@ -41,7 +52,7 @@ fn last_below(pool: &[u8], w: u8, n: usize, list: u8, p: u16) -> PageNumber
     let mut at = p;
     while 0 < at {
         at -= 1;
-        if validate_walk::on_list(pool, w, n, list, PageNumber(at)) {
+        if on_list(pool, w, n, list, PageNumber(at)) {
             return PageNumber(at);
         }
     }

@@ -22,12 +22,13 @@ pub fn header_fits(pool: &[u8], w: u8, n: usize) -> bool
     let edition = branchless::minus(w as usize, 1);
     let least = HEADER + CLASS_WORD * w as usize + PAGE_AND_RECORD;
     let len = pool.len();
+    // The page count is compared first: past it the compiler knows page numbers to be small.
     branchless::all6(
+        h.pages as usize == n,
         least <= len,
         n <= MOST_PAGES,
         h.edition as usize == edition,
         h.min_shift == 3,
         h.page_shift == 12,
-        h.pages as usize == n,
     )
 }

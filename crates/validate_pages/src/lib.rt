@@ -33,17 +33,21 @@ pub fn add_at(t: &mut [u64; 11], j: usize, x: u64)
     t[j] = std::num::wrapping_add_u64(t[j], x);
 }
 
-// The set marks of page p of n, which has class c.
+// The set marks of page p of n, which has class c. A map in the record is read as `validate_slabs` reads it, so that the two are one load.
 pub fn ones_of(pool: &[u8], w: u8, n: usize, p: PageNumber, c: u8) -> usize
     requires { ⌜ (n ≡ pagesIn w (now pool)) × (p .0 < n) × (n ≤ 65535) ⌝ }
     ensures answer { λ r. ⌜ r ≡ onesAt w (now (pool .entry)) (p .0) c ⌝ }
     ensures bound { λ r. ⌜ r ≤ 512 ⌝ }
 {
-    map_count::count_marks(pool, validate_fields::map_at(w, n, p, c), c)
+    if c < 3 {
+        map_count::count_marks(pool, validate_fields::map_at(w, n, p, c), c)
+    } else {
+        u64::count_ones(validate_fields::map_of(pool, w, p)) as usize
+    }
 }
 
 // What a page of class c with so many set marks adds to the counter of its class: chunks in use, a page, an open page.
-fn class_weight(c: u8, ones: usize) -> u64
+pub fn class_weight(c: u8, ones: usize) -> u64
     requires { ⌜ (c ≤ 8) × (ones ≤ 512) ⌝ }
     ensures { λ r. ⌜ r ≡ classWeight c ones ⌝ }
 {
@@ -65,7 +69,7 @@ fn strays_of(c: u8, ones: usize, next: PageNumber, prev: PageNumber) -> bool
 }
 
 // What it adds to the counter of faults: a page not in use, a full page with links.
-fn class_fault(c: u8, ones: usize, v: u64) -> u64
+pub fn class_fault(c: u8, ones: usize, v: u64) -> u64
     requires { ⌜ c ≤ 8 ⌝ }
     ensures { λ r. ⌜ r ≡ classFault c ones (unpackLinks v) ⌝ }
 {
@@ -77,7 +81,7 @@ fn class_fault(c: u8, ones: usize, v: u64) -> u64
 }
 
 // The class page p, with the links of the word v.
-pub fn add_class(pool: &[u8], w: u8, n: usize, p: PageNumber, v: u64, t: &mut [u64; 11])
+fn add_class(pool: &[u8], w: u8, n: usize, p: PageNumber, v: u64, t: &mut [u64; 11])
     requires { ⌜ (n ≡ pagesIn w (now pool)) × (p .0 < n) × (n ≤ 65535) × (unpackLinks v .class ≤ 8) ⌝ }
     ensures { λ _. ⌜ now (t .exit) ≡ classAdded (now (t .entry)) (unpackLinks v .class) (onesAt w (now (pool .entry)) (p .0) (unpackLinks v .class)) (unpackLinks v) ⌝ }
 {

@@ -6,6 +6,7 @@ use records::FIRST_TAKEN;
 use records::INSIDE_FREE;
 use records::INSIDE_TAKEN;
 use records::PageNumber;
+use validate_pages::FAULTS;
 use validate_pages::FREE;
 use validate_pages::SECOND;
 ghost use mathlib.Core.Path.{_≡_};
@@ -18,7 +19,7 @@ ghost use Rattle.records.specs.Page.{unpackLinks};
 ghost use Rattle.rules.specs.Fields.{kind};
 ghost use Rattle.rules.specs.Rules.{kindFrom, runFits, insideFree, firstFree, classPage, firstTaken, insideTaken, byKind, shapeAt, shape};
 ghost use Rattle.rules.specs.Bytes.{pagesIn, fieldsOf};
-ghost use Rattle.validate_pages.specs.Mirror.{Counted, pageAdded};
+ghost use Rattle.validate_pages.specs.Mirror.{Counted, onesAt, classAdded, pageAdded};
 
 fn kind_is(pool: &[u8], w: u8, p: usize, want: u8) -> bool
     requires { ⌜ p ≤ 65535 ⌝ }
@@ -139,6 +140,18 @@ fn page_shaped(pool: &[u8], w: u8, n: usize, p: PageNumber) -> bool
     of_kind(pool, w, n, p, kind)
 }
 
+// The class page p, with the links of the word v: the code of `validate_pages` in a function of its own, so that validation's is inlined.
+fn add_class(pool: &[u8], w: u8, n: usize, p: PageNumber, v: u64, t: &mut [u64; 11])
+    requires { ⌜ (n ≡ pagesIn w (now pool)) × (p .0 < n) × (n ≤ 65535) × (unpackLinks v .class ≤ 8) ⌝ }
+    ensures { λ _. ⌜ now (t .exit) ≡ classAdded (now (t .entry)) (unpackLinks v .class) (onesAt w (now (pool .entry)) (p .0) (unpackLinks v .class)) (unpackLinks v) ⌝ }
+{
+    let l = record_page::unpack_links(v);
+    let c = l.class;
+    let ones = validate_pages::ones_of(pool, w, n, p, c);
+    validate_pages::add_at(t, c as usize, validate_pages::class_weight(c, ones));
+    validate_pages::add_at(t, FAULTS, validate_pages::class_fault(c, ones, v));
+}
+
 // Counts page p, which has the links of the word v.
 fn add_page(pool: &[u8], w: u8, n: usize, p: PageNumber, v: u64, t: &mut [u64; 11])
     requires { ⌜ (n ≡ pagesIn w (now pool)) × (p .0 < n) × (n ≤ 65535) × (unpackLinks v .kind ≡ 2 → unpackLinks v .class ≤ 8) ⌝ }
@@ -155,7 +168,7 @@ fn add_page(pool: &[u8], w: u8, n: usize, p: PageNumber, v: u64, t: &mut [u64; 1
         return;
     }
     if kind == CLASS_PAGE {
-        validate_pages::add_class(pool, w, n, p, v, t);
+        add_class(pool, w, n, p, v, t);
         return;
     }
 }

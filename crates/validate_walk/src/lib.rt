@@ -71,7 +71,7 @@ pub fn is_open(pool: &[u8], w: u8, n: usize, c: u8, p: PageNumber) -> bool
     false
 }
 
-pub fn on_list(pool: &[u8], w: u8, n: usize, list: u8, p: PageNumber) -> bool
+fn on_list(pool: &[u8], w: u8, n: usize, list: u8, p: PageNumber) -> bool
     requires { ⌜ (n ≡ pagesIn w (now pool)) × (n ≤ 65535) × (shape (fieldsOf w (now pool)) n ≡ true) × (list ≤ 9) ⌝ }
     ensures { λ r. ⌜ r ≡ belongs (fieldsOf w (now (pool .entry))) n list (p .0) ⌝ }
 {

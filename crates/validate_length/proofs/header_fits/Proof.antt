@@ -1,7 +1,18 @@
+use mathlib.Core.Path.{_≡_, refl, _∙_}
+use mathlib.Core.Bool.{Bool, true, false}
+use mathlib.Core.List.{List, [], _∷_, _++_}
+use Rattle.base.specs.Tests.{pick, allOf}
 use Rattle.rules.specs.Bytes.{rule1}
 use borrow.Author.Needs.{needs}
 use Rattle.validate_length.proofs.header_fits.Statement.{statement}
 use Rattle.validate_length.proofs.header_fits.Tie as tie
+
+last-first : (t : Bool) (ts : List Bool) → allOf (t ∷ ts) ≡ allOf (ts ++ (t ∷ []))
+unfolding allOf pick
+last-first t [] = refl
+last-first t (true ∷ ts) = last-first t ts
+last-first true (false ∷ ts) = refl
+last-first false (false ∷ ts) = refl
 
 get-header-requires : tie.Need-get-header-requires
 get-header-requires c κs = search needs
@@ -29,7 +40,7 @@ all6-requires c κs = search needs
 
 returns : tie.Need-returns
 unfolding rule1
-returns c = rw (c .before .before .before .before .before .minus .ensures, c .before .before .before .before .before .before .get-header .ensures, c .before .before .before .before .before .before .before .before .pre) at (c .all6 .ensures)
+returns c = rw (c .before .before .before .before .before .minus .ensures, c .before .before .before .before .before .before .get-header .ensures, c .before .before .before .before .before .before .before .before .pre) at (c .all6 .ensures ∙ last-first _ _)
 
 pub header-fits-spec : {M : Type 1} → statement M
 header-fits-spec =
