@@ -4,15 +4,16 @@
  * A pool is a pointer and a length. `rt staticlib danumrikal` makes the archive
  * with the calls, target/staticlib/libdanumrikal.a; it needs no other library.
  * Three of them act on a gauge, which smooths a pool's number of pages in use,
- * all others on a pool.
+ * three on a pool and a directory of records by key, all others on a pool.
  *
  * The calls are proved: whatever the bytes hold and whatever is passed, each
  * returns, stays inside the given bytes and answers. A refused call changes
  * nothing, but that a chunk refused for room is counted in its class's asks and
  * failures. No call writes a block's bytes, but dnk_convert and dnk_mend in
- * their target. An offset at which no live block begins is never freed: a block
- * freed twice is refused, as long as its place was not handed out again. The
- * inline functions are tested. docs/SPEC.md has all rules.
+ * their target, and dnk_keeper_put in the block that it takes. An offset at which
+ * no live block begins is never freed: a block freed twice is refused, as long as
+ * its place was not handed out again. The inline functions are tested.
+ * docs/SPEC.md has all rules.
  *
  * What the host program keeps:
  *
@@ -25,7 +26,9 @@
  * - offsets of a list are not null either, lie where a uint32_t may, and share
  *   no byte with the pool.
  * - requests and answers of a batch are not null either, lie where a uint64_t
- *   may, and share no byte with the pool or each other.
+ *   may, and share no byte with the pool or each other. So is the directory of a
+ *   keeper's calls; a record to put is not null, readable, and shares no byte with
+ *   pool or directory.
  * - One call at a time, and nobody else writes any of the len bytes meanwhile,
  *   blocks included: processes that share a pool need a lock. The library has
  *   none.
@@ -48,13 +51,15 @@
 extern "C" {
 #endif
 
-#define DNK_PAGE 4096          /* bytes of a page */
-#define DNK_HEADER 8           /* bytes of the header */
-#define DNK_RECORD 16          /* bytes of a page's record */
-#define DNK_CLASSES 9          /* chunk sizes: class c has chunks of 8 << c bytes */
-#define DNK_MOST_PAGES 4096    /* pages of the largest pool */
-#define DNK_LARGEST_CHUNK 2048 /* blocks of more bytes are whole pages */
-#define DNK_GAUGE_ROUND 40     /* samples of a gauge, after which it restarts */
+#define DNK_PAGE 4096            /* bytes of a page */
+#define DNK_HEADER 8             /* bytes of the header */
+#define DNK_RECORD 16            /* bytes of a page's record */
+#define DNK_CLASSES 9            /* chunk sizes: class c has chunks of 8 << c bytes */
+#define DNK_MOST_PAGES 4096      /* pages of the largest pool */
+#define DNK_LARGEST_CHUNK 2048   /* blocks of more bytes are whole pages */
+#define DNK_GAUGE_ROUND 40       /* samples of a gauge, after which it restarts */
+#define DNK_MOST_PLACES 64       /* places of the largest directory of records */
+#define DNK_LONGEST_RECORD 65535 /* bytes of the longest record */
 
 /*
  * The records have two editions, which differ in their class records. The first
@@ -88,7 +93,8 @@ extern "C" {
  * An answer is one word: the refusal's number in the top 8 bits, 24 zero bits,
  * the value in the low 32. The number is 0 where the call was granted, and the
  * value is 0 where it was refused, but for dnk_free_all. So an answer below 2^32
- * is granted and is the value.
+ * is granted and is the value. That of dnk_keeper_find has a length too, above
+ * the value.
  */
 typedef uint64_t dnk_answer;
 
@@ -108,7 +114,9 @@ enum dnk_refusal {
     DNK_WRONG_LENGTH = 12,
     DNK_BEYOND_MENDING = 13,
     DNK_OTHER_BLOCKS = 14,
-    DNK_OUT_OF_RANGE = 15
+    DNK_OUT_OF_RANGE = 15,
+    DNK_NO_PLACE = 17,
+    DNK_NOT_HELD = 18
 };
 
 /*
@@ -267,6 +275,44 @@ struct dnk_gauge_reply dnk_gauge_sample(struct dnk_gauge gauge, uint32_t count);
  */
 dnk_answer dnk_gauge_trips(struct dnk_gauge gauge);
 
+/*
+ * A keeper stores records by key in blocks of a pool. Its directory is a list of
+ * 1 to DNK_MOST_PLACES words, which begins with all of them 0: key 16 bits,
+ * length 16 bits, offset of the block 32 bits. Length 0 is an empty place, and
+ * the whole word is 0 then. It is sound when it has such a size, each word of
+ * length 0 is 0, and in the other places keys and offsets differ and each offset
+ * is a live block with room for the length. Others may take and give blocks of
+ * the pool in between; nobody else writes the words or a record, or gives its
+ * block back.
+ *
+ * dnk_keeper_put stores a record. It takes the new block first, copies the record,
+ * changes the word, and only then gives back the block of a record that stood
+ * under the key: a refused put leaves the old record whole. A new key takes the
+ * first empty place. The value is the new block's offset. Refused by the first of:
+ *   DNK_NOT_SOUND      the pool's records break a rule, or the directory is unsound
+ *   DNK_NOTHING_ASKED  the record has no byte
+ *   DNK_WRONG_LENGTH   it has more than DNK_LONGEST_RECORD
+ *   DNK_NO_PLACE       the key is new, and no place is empty
+ *   DNK_NO_ROOM        as in dnk_alloc, asks and failures counted too
+ */
+dnk_answer dnk_keeper_put(uint8_t *pool, size_t len, uint64_t *directory, size_t places,
+                          uint16_t key, const uint8_t *record, size_t record_len);
+
+/*
+ * Where the record of a key lies: dnk_value_of the answer is its offset, for
+ * dnk_place, and dnk_length_of its length, which stands in bits 47 to 32.
+ * Changes nothing. Refused by the first of:
+ *   DNK_NOT_SOUND    as in dnk_keeper_put
+ *   DNK_NOT_HELD     no place holds the key
+ */
+dnk_answer dnk_keeper_find(const uint8_t *pool, size_t len, const uint64_t *directory, size_t places, uint16_t key);
+
+/*
+ * Gives the block of a key's record back and empties its place. The value is the
+ * bytes released. Refused as dnk_keeper_find, and then nothing changes.
+ */
+dnk_answer dnk_keeper_remove(uint8_t *pool, size_t len, uint64_t *directory, size_t places, uint16_t key);
+
 /* The request to take a block of at least size bytes. */
 static inline dnk_request dnk_to_alloc(uint32_t size)
 {
@@ -291,6 +337,12 @@ static inline uint32_t dnk_value_of(dnk_answer answer)
     return (uint32_t)answer;
 }
 
+/* The length of a record, from dnk_keeper_find's answer; 0 in all others. */
+static inline uint16_t dnk_length_of(dnk_answer answer)
+{
+    return (uint16_t)(answer >> 32);
+}
+
 /* The refusal in words, as "not taken". */
 static inline const char *dnk_refusal_name(enum dnk_refusal refusal)
 {
@@ -310,6 +362,8 @@ static inline const char *dnk_refusal_name(enum dnk_refusal refusal)
     case DNK_BEYOND_MENDING: return "beyond mending";
     case DNK_OTHER_BLOCKS: return "other blocks";
     case DNK_OUT_OF_RANGE: return "out of range";
+    case DNK_NO_PLACE: return "no place";
+    case DNK_NOT_HELD: return "not held";
     }
     return "unknown";
 }

@@ -35,7 +35,7 @@ pub fn alloc_sound(pool: &mut [u8], w: u8, pages: u16, size: u32) -> Allocated
     allocated(x)
 }
 
-fn allocated(x: u32) -> Allocated
+pub fn allocated(x: u32) -> Allocated
     ensures { λ r. ⌜ ofAlloc r ≡ outcomeOf x ⌝ }
 {
     if x < NOTHING_ASKED {
@@ -58,7 +58,7 @@ fn block(p: PageNumber, x: u32) -> u32
 
 // ---- peaks, in the editions that have them. They are asked for first, so that a batch asks once for all of its requests
 
-fn take_block(pool: &mut [u8], w: u8, pages: u16, size: u32) -> u32
+pub fn take_block(pool: &mut [u8], w: u8, pages: u16, size: u32) -> u32
     requires { ⌜ Whole w (now pool) pages ⌝ }
     ensures answer { λ r. ⌜ outcomeOf r ≡ allocOutcome w (now (pool .entry)) pages size ⌝ }
     ensures slice { λ _. ⌜ now (pool .exit) ≡ allocSlice w (now (pool .entry)) pages size ⌝ }

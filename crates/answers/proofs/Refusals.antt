@@ -4,7 +4,7 @@ use mathlib.Core.Bool.{false}
 use lib.Dec.{eqb}
 use Rattle.answers.specs.Outcome.{numberOf}
 use Rattle.answers.specs.declared.Refusal.{Refusal}
-use Rattle.answers.specs.declared.Refusal.the-variants.{TooShort, TooLong, NotSound, NoRoom, Outside, NotTaken, NotAStart, Unreadable, ScriptTooLong, NothingAsked, AnswersTooShort, WrongLength, BeyondMending, OtherBlocks, OutOfRange, TableTooShort}
+use Rattle.answers.specs.declared.Refusal.the-variants.{TooShort, TooLong, NotSound, NoRoom, Outside, NotTaken, NotAStart, Unreadable, ScriptTooLong, NothingAsked, AnswersTooShort, WrongLength, BeyondMending, OtherBlocks, OutOfRange, TableTooShort, NoPlace, NotHeld}
 
 pub number-counts : (r : Refusal) → eqb (numberOf r) 0 ≡ false
 number-counts TooShort = refl
@@ -23,3 +23,5 @@ number-counts BeyondMending = refl
 number-counts OtherBlocks = refl
 number-counts OutOfRange = refl
 number-counts TableTooShort = refl
+number-counts NoPlace = refl
+number-counts NotHeld = refl

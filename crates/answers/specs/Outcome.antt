@@ -9,7 +9,7 @@ use Rattle.answers.specs.declared.Freed.the-variants as freed
 use Rattle.answers.specs.declared.Batched.{Batched}
 use Rattle.answers.specs.declared.Batched.the-variants as batched
 use Rattle.answers.specs.declared.Refusal.{Refusal}
-use Rattle.answers.specs.declared.Refusal.the-variants.{TooShort, TooLong, NotSound, NoRoom, Outside, NotTaken, NotAStart, Unreadable, ScriptTooLong, NothingAsked, AnswersTooShort, WrongLength, BeyondMending, OtherBlocks, OutOfRange, TableTooShort}
+use Rattle.answers.specs.declared.Refusal.the-variants.{TooShort, TooLong, NotSound, NoRoom, Outside, NotTaken, NotAStart, Unreadable, ScriptTooLong, NothingAsked, AnswersTooShort, WrongLength, BeyondMending, OtherBlocks, OutOfRange, TableTooShort, NoPlace, NotHeld}
 
 abbrev pub numberOf : Refusal → ℕ
 numberOf TooShort = 1
@@ -28,6 +28,8 @@ numberOf BeyondMending = 13
 numberOf OtherBlocks = 14
 numberOf OutOfRange = 15
 numberOf TableTooShort = 16
+numberOf NoPlace = 17
+numberOf NotHeld = 18
 
 pub record Outcome : Type 0 where
   pub number : ℕ

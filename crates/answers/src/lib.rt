@@ -62,6 +62,10 @@ pub enum Refusal {
     OutOfRange,
     // plain engine: a table with fewer than 12 entries
     TableTooShort,
+    // put: a new key, and no empty place in the directory
+    NoPlace,
+    // find, remove: a key that no place of the directory holds
+    NotHeld,
 }
 
 // The refusal's number (SPEC 5).
@@ -85,5 +89,7 @@ pub fn number(r: Refusal) -> u8
         Refusal::OtherBlocks => 14,
         Refusal::OutOfRange => 15,
         Refusal::TableTooShort => 16,
+        Refusal::NoPlace => 17,
+        Refusal::NotHeld => 18,
     }
 }

@@ -1,4 +1,5 @@
-// The calls for C and other languages: a pool is a pointer and a length, a gauge a struct by value, an answer one word.
+// The calls for C and other languages: a pool, a directory and a record are each a pointer and a length, a gauge is a struct by value,
+// an answer one word.
 use answers::Offset;
 use free_all::Failed;
 use free_all::FreedAll;
@@ -15,6 +16,7 @@ ghost use Rattle.answer_words.specs.Word.{wordOf};
 ghost use Rattle.convert.specs.Convert.{convertOutcome, converted};
 ghost use Rattle.batch.specs.Batch.{batchOutcome, batchPool, batchAnswers};
 ghost use Rattle.mending.specs.Checked.{checkOutcome, mendOutcome, mended};
+ghost use Rattle.keeper_bytes.specs.Requests.{putLeft, findLeft, removeLeft};
 ghost use Rattle.gauge.specs.Gauge.{startOutcome, started, sampleOutcome, sampled, tripOutcome};
 ghost use Rattle.free_all_bytes.specs.FreeAll.{freeAllOutcome, freeAllAfter};
 ghost use Rattle.free_all.specs.Outcome.{ofFreeAll};
@@ -114,6 +116,39 @@ pub extern "C" fn dnk_mend(damaged: &[u8], target: &mut [u8]) -> u64
     ensures slice { λ _. ⌜ now (target .exit) ≡ mended (widthOf (now (damaged .entry))) (now (damaged .entry)) (now (target .entry)) ⌝ }
 {
     answer_words::formatted_word(pool::mend(damaged, target))
+}
+
+// Stores a record under a key: the offset of its block, or the refusal.
+#[no_mangle]
+pub extern "C" fn dnk_keeper_put(
+    pool: &mut [u8],
+    directory: &mut [u64],
+    key: u16,
+    bytes: &[u8],
+) -> u64
+    ensures answer { λ r. ⌜ r ≡ wordOf (putLeft (widthOf (now (pool .entry))) (now (pool .entry)) (now (directory .entry)) key (now (bytes .entry)) .outcome) ⌝ }
+    ensures pool { λ _. ⌜ now (pool .exit) ≡ putLeft (widthOf (now (pool .entry))) (now (pool .entry)) (now (directory .entry)) key (now (bytes .entry)) .pool ⌝ }
+    ensures directory { λ _. ⌜ now (directory .exit) ≡ putLeft (widthOf (now (pool .entry))) (now (pool .entry)) (now (directory .entry)) key (now (bytes .entry)) .words ⌝ }
+{
+    answer_words::allocated_word(keeper::put(pool, directory, key, bytes))
+}
+
+// Where the record of a key lies, length and offset, or the refusal.
+#[no_mangle]
+pub extern "C" fn dnk_keeper_find(pool: &[u8], directory: &[u64], key: u16) -> u64
+    ensures { λ r. ⌜ r ≡ wordOf (findLeft (widthOf (now (pool .entry))) (now (pool .entry)) (now (directory .entry)) key .outcome) ⌝ }
+{
+    keeper::held_word(keeper::find(pool, directory, key))
+}
+
+// Gives the block of a key's record back and empties its place: the bytes released, or the refusal.
+#[no_mangle]
+pub extern "C" fn dnk_keeper_remove(pool: &mut [u8], directory: &mut [u64], key: u16) -> u64
+    ensures answer { λ r. ⌜ r ≡ wordOf (removeLeft (widthOf (now (pool .entry))) (now (pool .entry)) (now (directory .entry)) key .outcome) ⌝ }
+    ensures pool { λ _. ⌜ now (pool .exit) ≡ removeLeft (widthOf (now (pool .entry))) (now (pool .entry)) (now (directory .entry)) key .pool ⌝ }
+    ensures directory { λ _. ⌜ now (directory .exit) ≡ removeLeft (widthOf (now (pool .entry))) (now (pool .entry)) (now (directory .entry)) key .words ⌝ }
+{
+    answer_words::freed_word(keeper::remove(pool, directory, key))
 }
 
 // A gauge with this trip level, or the refusal.

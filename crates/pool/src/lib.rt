@@ -21,11 +21,11 @@ ghost use Rattle.free_all_bytes.specs.FreeAll.{freeAllOutcome, freeAllAfter};
 ghost use Rattle.free_all.specs.Outcome.{ofFreeAll};
 
 // Words of a class record.
-const EDITION_1: u8 = 2;
+pub const EDITION_1: u8 = 2;
 
-const EDITION_2: u8 = 3;
+pub const EDITION_2: u8 = 3;
 
-fn is_second(pool: &[u8]) -> bool
+pub fn is_second(pool: &[u8]) -> bool
     ensures { λ r. ⌜ r ≡ eqb (getD (now (pool .entry)) 0 0) 2 ⌝ }
 {
     cells::get_byte(pool, 0) == 2

@@ -36,6 +36,29 @@ extern "C" {
     fn dnk_gauge_start(level: f64) -> GaugeReply;
     fn dnk_gauge_sample(gauge: Gauge, count: u32) -> GaugeReply;
     fn dnk_gauge_trips(gauge: Gauge) -> u64;
+    fn dnk_keeper_put(
+        pool: *mut u8,
+        len: usize,
+        directory: *mut u64,
+        places: usize,
+        key: u16,
+        record: *const u8,
+        record_len: usize,
+    ) -> u64;
+    fn dnk_keeper_find(
+        pool: *const u8,
+        len: usize,
+        directory: *const u64,
+        places: usize,
+        key: u16,
+    ) -> u64;
+    fn dnk_keeper_remove(
+        pool: *mut u8,
+        len: usize,
+        directory: *mut u64,
+        places: usize,
+        key: u16,
+    ) -> u64;
 }
 
 pub fn format(pool: &mut [u8], edition: u8) -> u64 {
@@ -138,4 +161,47 @@ pub fn gauge_sample(gauge: Gauge, count: u32) -> GaugeReply {
 pub fn gauge_trips(gauge: Gauge) -> u64 {
     // SAFETY: numbers by value; all are taken.
     unsafe { dnk_gauge_trips(gauge) }
+}
+
+pub fn keeper_put(pool: &mut [u8], directory: &mut [u64], key: u16, record: &[u8]) -> u64 {
+    // SAFETY: pointers and lengths are those of slices that are lent for the
+    // call, of which those to write share no byte with another.
+    unsafe {
+        dnk_keeper_put(
+            pool.as_mut_ptr(),
+            pool.len(),
+            directory.as_mut_ptr(),
+            directory.len(),
+            key,
+            record.as_ptr(),
+            record.len(),
+        )
+    }
+}
+
+pub fn keeper_find(pool: &[u8], directory: &[u64], key: u16) -> u64 {
+    // SAFETY: pointers and lengths are those of slices that are lent to be read.
+    unsafe {
+        dnk_keeper_find(
+            pool.as_ptr(),
+            pool.len(),
+            directory.as_ptr(),
+            directory.len(),
+            key,
+        )
+    }
+}
+
+pub fn keeper_remove(pool: &mut [u8], directory: &mut [u64], key: u16) -> u64 {
+    // SAFETY: pointers and lengths are those of slices that are lent for the
+    // call and share no byte.
+    unsafe {
+        dnk_keeper_remove(
+            pool.as_mut_ptr(),
+            pool.len(),
+            directory.as_mut_ptr(),
+            directory.len(),
+            key,
+        )
+    }
 }

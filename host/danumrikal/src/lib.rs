@@ -26,7 +26,7 @@
 //! the second.
 //!
 //! A [`Gauge`] smooths the number of pages in use, for a panel that trips above a
-//! level.
+//! level. A [`Keeper`] keeps records by key, in blocks of a pool.
 //!
 //! What the host program keeps: the memory and its mapping, a lock where
 //! processes share a pool, so that nobody else writes any of it while its bytes
@@ -45,6 +45,7 @@ mod edition;
 mod ffi;
 mod free_all;
 mod gauge;
+mod keeper;
 mod mend;
 mod pool;
 mod refusal;
@@ -55,6 +56,7 @@ pub use convert::convert;
 pub use edition::Edition;
 pub use free_all::Failed;
 pub use gauge::Gauge;
+pub use keeper::{Keeper, MOST_PLACES};
 pub use mend::{check_mended, mend};
 pub use pool::{check, pages_in_use, peaks, Offset, Pool, CLASSES, MOST_PAGES, PAGE};
 pub use refusal::Refusal;

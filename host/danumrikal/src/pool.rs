@@ -375,11 +375,15 @@ impl<'a> Pool<'a> {
         Some(&mut self.bytes[range])
     }
 
-    /// Where these bytes lie in the slice.
     fn range(&self, offset: Offset, size: u32) -> Option<Range<usize>> {
-        let (pages, first) = self.edition()?.pages(self.bytes.len())?;
-        let start = first.checked_add(offset.0 as usize)?;
-        let end = start.checked_add(size as usize)?;
-        (end <= first + PAGE * pages).then_some(start..end)
+        range(self.bytes, offset, size)
     }
+}
+
+/// Where a block's bytes lie in the slice of a pool.
+pub(crate) fn range(pool: &[u8], offset: Offset, size: u32) -> Option<Range<usize>> {
+    let (pages, first) = Edition::of(pool)?.pages(pool.len())?;
+    let start = first.checked_add(offset.0 as usize)?;
+    let end = start.checked_add(size as usize)?;
+    (end <= first + PAGE * pages).then_some(start..end)
 }

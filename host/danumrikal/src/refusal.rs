@@ -18,9 +18,10 @@ pub enum Refusal {
     TooLong = 2,
     /// Alloc, free or batch: the records break a rule. Convert: the source is no
     /// sound pool of edition 1. Check of a mended pool: the copy's records break
-    /// a rule.
+    /// a rule. Put, find or remove: the pool's records do, or the directory is
+    /// not sound.
     NotSound = 3,
-    /// Alloc: no free chunk and no free page, or no run long enough.
+    /// Alloc or put: no free chunk and no free page, or no run long enough.
     NoRoom = 4,
     /// Free: the offset lies past the pages.
     Outside = 5,
@@ -30,12 +31,13 @@ pub enum Refusal {
     NotAStart = 7,
     /// In a batch: a request with stray bits.
     Unreadable = 8,
-    /// Alloc: the size is 0.
+    /// Alloc: the size is 0. Put: the record has no byte.
     NothingAsked = 10,
     /// Batch: fewer answers than requests.
     AnswersTooShort = 11,
     /// Convert: the target does not hold as many pages. Mend: it has another
-    /// length. Check of a mended pool: lengths or edition bytes differ.
+    /// length. Check of a mended pool: lengths or edition bytes differ. Put: the
+    /// record has more than 65,535 bytes.
     WrongLength = 12,
     /// Mend, and check of a mended pool: what tells the live blocks of the
     /// damaged one is damaged too.
@@ -46,9 +48,13 @@ pub enum Refusal {
     /// Gauge: a count, load or level that is no number from 0 to 4,096, or more
     /// than 40 samples.
     OutOfRange = 15,
+    /// Put: a new key, and no empty place in the directory.
+    NoPlace = 17,
+    /// Find or remove: no place of the directory holds the key.
+    NotHeld = 18,
 }
 
-const ALL: [Refusal; 14] = [
+const ALL: [Refusal; 16] = [
     Refusal::TooShort,
     Refusal::TooLong,
     Refusal::NotSound,
@@ -63,6 +69,8 @@ const ALL: [Refusal; 14] = [
     Refusal::BeyondMending,
     Refusal::OtherBlocks,
     Refusal::OutOfRange,
+    Refusal::NoPlace,
+    Refusal::NotHeld,
 ];
 
 impl Refusal {
@@ -101,6 +109,8 @@ impl Refusal {
             Refusal::BeyondMending => "beyond mending",
             Refusal::OtherBlocks => "other blocks",
             Refusal::OutOfRange => "out of range",
+            Refusal::NoPlace => "no place",
+            Refusal::NotHeld => "not held",
         }
     }
 }

@@ -44,6 +44,8 @@ static void names(void)
     EXPECT(has_name(13, "beyond mending"));
     EXPECT(has_name(14, "other blocks"));
     EXPECT(has_name(15, "out of range"));
+    EXPECT(has_name(17, "no place"));
+    EXPECT(has_name(18, "not held"));
     EXPECT(has_name(16, "unknown"));
 }
 
@@ -282,6 +284,43 @@ static void mended(uint8_t edition)
     EXPECT(dnk_check_mended(pool, 0, target, 0) == refused(DNK_BEYOND_MENDING));
 }
 
+/* Records by key: put, replaced, found, removed; every refusal, and the words of the directory. */
+static void keeper(uint8_t edition)
+{
+    static uint8_t longest[DNK_LONGEST_RECORD + 1];
+    const size_t len = DNK_POOL_LENGTH(edition, 2);
+    const uint8_t record[] = {1, 2, 3};
+    uint64_t directory[DNK_MOST_PLACES + 1] = {0};
+    EXPECT(dnk_format(pool, len, edition) == 2);
+    EXPECT(dnk_keeper_put(pool, len, directory, 0, 7, record, 3) == refused(DNK_NOT_SOUND)); /* no place */
+    EXPECT(dnk_keeper_put(pool, len, directory, DNK_MOST_PLACES + 1, 7, record, 3) == refused(DNK_NOT_SOUND));
+    EXPECT(dnk_keeper_put(pool, len, directory, 1, 7, record, 0) == refused(DNK_NOTHING_ASKED));
+    EXPECT(dnk_keeper_put(pool, len, directory, 1, 7, longest, sizeof longest) == refused(DNK_WRONG_LENGTH));
+    EXPECT(dnk_keeper_find(pool, len, directory, 1, 7) == refused(DNK_NOT_HELD));
+    EXPECT(dnk_keeper_remove(pool, len, directory, 1, 7) == refused(DNK_NOT_HELD));
+
+    EXPECT(dnk_keeper_put(pool, len, directory, 1, 0x1234, record, 3) == 64);
+    EXPECT(directory[0] == UINT64_C(0x1234000300000040) && directory[1] == 0);
+    EXPECT(dnk_keeper_put(pool, len, directory, 1, 0x1334, record, 3) == refused(DNK_NO_PLACE));
+    EXPECT(dnk_keeper_put(pool, len, directory, 1, 0x1234, longest, 2 * DNK_PAGE) == refused(DNK_NO_ROOM));
+    dnk_answer found = dnk_keeper_find(pool, len, directory, 1, 0x1234);
+    EXPECT(found == UINT64_C(0x0000000300000040));
+    EXPECT(dnk_refusal_of(found) == DNK_GRANTED && dnk_value_of(found) == 64 && dnk_length_of(found) == 3);
+    EXPECT(memcmp(pool + dnk_place(pool, len, dnk_value_of(found)), record, 3) == 0);
+    EXPECT(dnk_keeper_put(pool, len, directory, 1, 0x1234, record, 2) == 72); /* the old block is still taken then */
+    EXPECT(dnk_free(pool, len, 64) == refused(DNK_NOT_TAKEN));
+    EXPECT(dnk_length_of(dnk_keeper_find(pool, len, directory, 1, 0x1234)) == 2);
+    directory[0] ^= 1; /* no block begins there */
+    EXPECT(dnk_keeper_find(pool, len, directory, 1, 0x1234) == refused(DNK_NOT_SOUND));
+    EXPECT(dnk_keeper_remove(pool, len, directory, 1, 0x1234) == refused(DNK_NOT_SOUND));
+    directory[0] ^= 1;
+    EXPECT(dnk_keeper_remove(pool, len, directory, 1, 0x1234) == 8);
+    EXPECT(directory[0] == 0 && dnk_pages_in_use(pool, len) == 0);
+    pool[0] = 3; /* no edition */
+    EXPECT(dnk_keeper_put(pool, len, directory, 1, 7, record, 0) == refused(DNK_NOT_SOUND));
+    EXPECT(dnk_keeper_find(pool, len, directory, 1, 7) == refused(DNK_NOT_SOUND));
+}
+
 int main(void)
 {
     names();
@@ -294,6 +333,7 @@ int main(void)
         alignment(edition);
         mended(edition);
         gauges(edition);
+        keeper(edition);
     }
     peaks();
     return failed ? EXIT_FAILURE : EXIT_SUCCESS;

@@ -8,6 +8,7 @@ use std::process::Command;
 const NIGHT: &str = include_str!("../../../examples/night.stdout");
 const POWER_LOSS: &str = include_str!("../../../examples/power_loss.stdout");
 const PANEL: &str = include_str!("../../../examples/panel.stdout");
+const LEAP_SECONDS: &str = include_str!("../../../examples/leap_seconds.stdout");
 const README: &str = include_str!("../../../README.md");
 
 /// As strictly as compilers can.
@@ -89,6 +90,17 @@ fn the_panel_in_rust() {
 fn the_power_loss_in_c() {
     let source = root().join("examples/power_loss.c");
     assert_eq!(build_and_run(&C, &source, "power_loss"), POWER_LOSS);
+}
+
+#[test]
+fn the_leap_seconds_in_c() {
+    let source = root().join("examples/leap_seconds.c");
+    assert_eq!(build_and_run(&C, &source, "leap_seconds"), LEAP_SECONDS);
+}
+
+#[test]
+fn the_leap_seconds_in_rust() {
+    assert_eq!(example("leap_seconds"), LEAP_SECONDS);
 }
 
 #[test]

@@ -23,6 +23,8 @@ fn refusals_have_the_second_programs_numbers_and_names() {
         (Refusal::BeyondMending, reference::Refusal::BeyondMending),
         (Refusal::OtherBlocks, reference::Refusal::OtherBlocks),
         (Refusal::OutOfRange, reference::Refusal::OutOfRange),
+        (Refusal::NoPlace, reference::Refusal::NoPlace),
+        (Refusal::NotHeld, reference::Refusal::NotHeld),
     ];
     for (ours, theirs) in refusals {
         assert_eq!(ours.number(), theirs.number());

@@ -13,6 +13,7 @@
 //! - [`script`] serves a text of takes and gives.
 //! - [`mod@report`] prints what the image of a pool holds.
 //! - [`gauge`] smooths the number of pages in use, by exact fractions.
+//! - [`keeper`] keeps records by key, in a directory above the pool.
 
 #![forbid(unsafe_code)]
 #![warn(missing_docs)]
@@ -22,6 +23,7 @@ pub mod class;
 pub mod convert;
 pub mod free_all;
 pub mod gauge;
+pub mod keeper;
 pub mod layout;
 pub mod mend;
 pub mod pool;

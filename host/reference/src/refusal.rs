@@ -12,7 +12,8 @@ pub enum Refusal {
     TooLong,
     /// Alloc, free or batch: the pool's records are not sound. Convert: the
     /// source is no sound pool of edition 1. Format: there is no such edition.
-    /// Check of a mended pool: the copy is not sound.
+    /// Check of a mended pool: the copy is not sound. Put, find or remove: the
+    /// pool or the directory is not sound.
     NotSound,
     /// Alloc: no free chunk and no free page, or no run long enough.
     NoRoom,
@@ -26,12 +27,13 @@ pub enum Refusal {
     Unreadable,
     /// Script: the input is longer than a script may be.
     ScriptTooLong,
-    /// Alloc: a size of 0.
+    /// Alloc: a size of 0. Put: a record of no bytes.
     NothingAsked,
     /// Batch: the list for answers is shorter than the requests.
     AnswersTooShort,
     /// Convert: the target's length does not hold as many pages. Mend: it is
     /// another. Check of a mended pool: lengths or edition bytes are unequal.
+    /// Put: a record of more than 65,535 bytes.
     WrongLength,
     /// Mend, and check of a mended pool: header constants, page count, kinds,
     /// classes, run lengths and maps of the damaged one show no pool.
@@ -42,6 +44,10 @@ pub enum Refusal {
     /// Gauge: a count, load or level that is no number from 0 to 4,096, or more
     /// than 40 samples.
     OutOfRange,
+    /// Put: a new key, and no empty place in the directory.
+    NoPlace,
+    /// Find or remove: no place of the directory holds the key.
+    NotHeld,
 }
 
 impl Refusal {
@@ -63,6 +69,8 @@ impl Refusal {
             Refusal::BeyondMending => 13,
             Refusal::OtherBlocks => 14,
             Refusal::OutOfRange => 15,
+            Refusal::NoPlace => 17,
+            Refusal::NotHeld => 18,
         }
     }
 }
@@ -85,6 +93,8 @@ impl fmt::Display for Refusal {
             Refusal::BeyondMending => "beyond mending",
             Refusal::OtherBlocks => "other blocks",
             Refusal::OutOfRange => "out of range",
+            Refusal::NoPlace => "no place",
+            Refusal::NotHeld => "not held",
         })
     }
 }

@@ -1,0 +1,1 @@
+pub mod Served  -- the ways of put, find and remove

@@ -1,0 +1,1 @@
+pub mod Stored  -- what the functions leave is what the definitions say

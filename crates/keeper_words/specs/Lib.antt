@@ -1,0 +1,1 @@
+pub mod Words  -- a word of the directory, packed and unpacked
