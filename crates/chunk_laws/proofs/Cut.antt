@@ -145,12 +145,17 @@ module _ (w : ℕ) (wide : 2 ≤ w) (narrow : w ≤ 255) (s : List ℕ) (B : Byt
   unfolding stateImage asked
   own-record =
       let F = fits .class c (omega arith) in
-      let u : usedOf m c % 16777216 + 1 ≡ usedOf n c =
+      let N = state-fits Wn few .class c (omega arith) in
+      let u : usedOf m c + 1 ≡ usedOf n c =
       omega (arith, F .used, rw (was, here) at (used-frame m n refl p below there c), used-none c idle refl, used-new c ok) in
-      let t : shown m .total c % 16777216 + counted c ≡ shown n .total c =
+      let t : shown m .total c + counted c ≡ shown n .total c =
       omega (arith, F .total, rw (was, here, eq-eqb c c refl) at (total-frame m n refl p below there c)) in
+      let z : (shown m .total c + counted c) / 16777216 ≡ 0 = omega (arith, t, N .total) in
+      let v : usedOf m c + 1 + (shown m .total c + counted c) / 16777216 ≡ usedOf n c = omega (arith, u, z) in
+      let f : (stateImage n .class c .first .0 + (usedOf m c + 1 + (shown m .total c + counted c) / 16777216) / 16777216) % 65536 ≡ stateImage n .class c .first .0 =
+      omega (arith, v, N .used, N .first) in
       let a : asked (m .tally c) ≡ n .tally c = sym (upd-same (m .tally) c (asked (m .tally c))) in
-      λ j. classRecord (stateImage n .class c .first .0) (u j) (t j) (a j)
+      λ j. classRecord (f j) (v j) (t j) (a j)
 
   -- ---- lists
 

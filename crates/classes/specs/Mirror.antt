@@ -34,11 +34,7 @@ ownWord c = (2 ^ own c - 1) * 2 ^ (64 - own c)
 abbrev pub chunkAsked : ClassRecord → ClassRecord
 chunkAsked r = reqsTo r (raise (r .reqs))
 
--- and handed out
-abbrev pub chunkUsed : ClassRecord → ClassRecord
-chunkUsed r = usedTo (chunkAsked r) (r .used % 16777216 + 1)
-
--- as the word of counts is added to: a carry, which sound records never have, goes on into the first page
+-- and handed out, as the word of counts is added to: a carry, which sound records never have, goes on into the first page
 abbrev pub chunkCarried : ClassRecord → ClassRecord
 chunkCarried r =
     record {
@@ -49,9 +45,16 @@ chunkCarried r =
       fails = r .fails;
     }
 
--- of a new page
+-- of a new page: a carry of total goes on into used
 abbrev pub pageUsed : (c : ℕ) (r : ClassRecord) → ClassRecord
-pageUsed c r = totalTo (chunkUsed r) (r .total % 16777216 + counted c)
+pageUsed c r =
+    record {
+      first = record { 0 = (r .first .0 + (r .used + 1 + (r .total + counted c) / 16777216) / 16777216) % 65536 };
+      used = r .used + 1 + (r .total + counted c) / 16777216;
+      total = r .total + counted c;
+      reqs = raise (r .reqs);
+      fails = r .fails;
+    }
 
 -- or could not be handed out
 abbrev pub noneUsed : ClassRecord → ClassRecord

@@ -16,10 +16,8 @@ use Rattle.model.specs.State.{Page, idle, slab, taken, inside, edge, State}
 use Rattle.model.specs.Calls.{Answer, at, freed, no, Reply, outside, notTaken, notAStart, refuse, release, keepPage, dropPage, freeChunk, freeAt, free}
 use Rattle.model.specs.WellFormed.{WellFormed}
 use Rattle.model.proofs.Table.{in-table, taken-ok}
-use Rattle.plain.specs.declared.Plain.{Plain}
-use Rattle.plain.specs.declared.Served.{Served}
 use Rattle.plain.specs.Table.{wrap}
-use Rattle.plain.specs.Plain.{Shaped, entryAt, markOf, pageOf, pageAt, readPlain}
+use Rattle.plain.specs.Plain.{Plain, Served, Shaped, entryAt, markOf, pageOf, pageAt, readPlain}
 use Rattle.plain.specs.Pages.{pagesFreed, refused, granted}
 use Rattle.plain.specs.Chunks.{withByte, chunkFreed}
 use Rattle.plain.specs.Engine.{freeAnswer, freeMarked, freeChunkAt, freeChunkBytes, freeRunAt, freeKind, freeKindBytes, freeIn, freeInBytes, plainFree, plainFreeBytes}

@@ -26,9 +26,8 @@ use Rattle.model.proofs.Classes.{lowest-clear, own-few}
 use Rattle.model.proofs.Table.{slab-ok}
 use Rattle.model.proofs.Occupy.{were-idle, in-size}
 use Rattle.plain.specs.declared.PageEntry.{PageEntry}
-use Rattle.plain.specs.declared.Plain.{Plain}
 use Rattle.plain.specs.Table.{vacant, runOf, readRuns, firstFit, runAt, carvedAt}
-use Rattle.plain.specs.Plain.{Shaped, freeEntry, entryAt, markOf, pageOf, pageAt, listed, listOf, noCounts, tallyOf, readPlain}
+use Rattle.plain.specs.Plain.{Plain, Shaped, freeEntry, entryAt, markOf, pageOf, pageAt, listed, listOf, noCounts, tallyOf, readPlain}
 use Rattle.plain.specs.Pages.{pagesFreed}
 use Rattle.plain.specs.Chunks.{newBytes, withByte, listedFirst, unlisted, countAsk, chunkRefused, pageCut, chunkTaken, chunkBack, pageDropped}
 use Rattle.plain.proofs.Table.{fit-read, carve-read}

@@ -11,5 +11,6 @@ pub mod Handed
 pub mod Returned
 pub mod Whole
 pub mod Freed
+pub mod Joined
 pub mod Shapes
 pub mod Fresh

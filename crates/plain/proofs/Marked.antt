@@ -23,8 +23,7 @@ use Rattle.model.specs.WellFormed.{WellFormed}
 use Rattle.model.proofs.Lists.{open-is}
 use Rattle.plain.specs.declared.PageEntry.{PageEntry}
 use Rattle.plain.specs.declared.Counts.{Counts}
-use Rattle.plain.specs.declared.Plain.{Plain}
-use Rattle.plain.specs.Plain.{Shaped, entryAt, markOf, pageOf, pageAt, listed, listOf, noCounts, tallyOf, readPlain}
+use Rattle.plain.specs.Plain.{Plain, Shaped, entryAt, markOf, pageOf, pageAt, listed, listOf, noCounts, tallyOf, readPlain}
 use Rattle.plain.specs.Chunks.{askedCounts, failedCounts, countAsk, countFailure}
 use Rattle.plain.proofs.Shown.{page-in, page-past}
 

@@ -22,10 +22,9 @@ use Rattle.model.proofs.Table.{not-idle}
 use Rattle.model.proofs.Runs.{Keyed, keyed}
 use Rattle.model.proofs.Occupy.{were-idle, in-size}
 use Rattle.plain.specs.declared.PageEntry.{PageEntry}
-use Rattle.plain.specs.declared.Plain.{Plain}
 use Rattle.plain.specs.Arrays.{remade}
 use Rattle.plain.specs.Table.{vacant, readRuns, runOf, firstFit, runAt, carvedAt, released}
-use Rattle.plain.specs.Plain.{Shaped, freeEntry, entryAt, markOf, pageOf, pageAt, listOf, readPlain}
+use Rattle.plain.specs.Plain.{Plain, Shaped, freeEntry, entryAt, markOf, pageOf, pageAt, listOf, readPlain}
 use Rattle.plain.specs.Pages.{takenAt, freedAt, runTaken, pagesFreed}
 use Rattle.plain.proofs.Loops.{getD-remade}
 use Rattle.plain.proofs.Table.{fit-read, carve-read, release-read, HasPlace}

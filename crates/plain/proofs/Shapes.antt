@@ -7,11 +7,9 @@ use lib.Dec.{eqb, leb, ltb}
 use lib.ListN.{length, set, length-set}
 use Rattle.base.specs.Tests.{pick}
 use Rattle.model.specs.Classes.{chunk, startsChunk, hasTaken, hasClear, classOf}
-use Rattle.plain.specs.declared.Plain.{Plain}
-use Rattle.plain.specs.declared.Served.{Served}
 use Rattle.plain.specs.Arrays.{remade, pushed}
 use Rattle.plain.specs.Table.{carvedAt, cleared, released}
-use Rattle.plain.specs.Plain.{Shaped}
+use Rattle.plain.specs.Plain.{Plain, Served, Shaped}
 use Rattle.plain.specs.Pages.{runTaken, pagesFreed, granted, refused, allocAt, allocPages}
 use Rattle.plain.specs.Chunks.{newBytes, withByte, listedFirst, unlisted, countAsk, countFailure, chunkRefused, pageCut, chunkTaken, chunkBack, pageDropped, chunkFreed}
 use Rattle.plain.specs.Engine.{fromRun, fromRunBytes, fromPage, allocChunk, allocChunkBytes, plainAlloc, plainAllocBytes, freeMarked, freeChunkAt, freeChunkBytes, freeRunAt, freeKind, freeKindBytes, freeIn, freeInBytes, plainFree, plainFreeBytes}
@@ -24,12 +22,12 @@ pub record Tables (s : Plain) : Type 0 where
   pub ready : length (s .ready) ≡ 12
   pub counts : length (s .counts) ≡ 9
 
-either : {A : Type 0} (P : A → Type 0) (t : Bool) {x y : A} → P x → P y → P (pick t x y)
+pub either : {A : Type 0} (P : A → Type 0) (t : Bool) {x y : A} → P x → P y → P (pick t x y)
 unfolding pick
 either P true p q = p
 either P false p q = q
 
-length-pushed : {A : Type 0} (empty : A → Bool) (x : A) (t : List A) → length (pushed empty x t) ≡ length t
+pub length-pushed : {A : Type 0} (empty : A → Bool) (x : A) (t : List A) → length (pushed empty x t) ≡ length t
 unfolding pushed pick
 length-pushed empty x [] = refl
 length-pushed empty x (y ∷ t) = go (empty y) (length-pushed empty y t)

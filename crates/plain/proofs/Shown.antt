@@ -17,9 +17,8 @@ use Rattle.model.specs.WellFormed.{TableOk, WellFormed}
 use Rattle.model.proofs.Table.{is-idle, in-table}
 use Rattle.model.proofs.Lists.{open-is}
 use Rattle.plain.specs.declared.PageEntry.{PageEntry}
-use Rattle.plain.specs.declared.Plain.{Plain}
 use Rattle.plain.specs.Table.{readRuns}
-use Rattle.plain.specs.Plain.{Shaped, freeEntry, entryAt, markOf, pageOf, pageAt, listed, listOf, readPlain}
+use Rattle.plain.specs.Plain.{Plain, Shaped, freeEntry, entryAt, markOf, pageOf, pageAt, listed, listOf, readPlain}
 use Rattle.plain.proofs.Table.{Small}
 
 -- ---- pages

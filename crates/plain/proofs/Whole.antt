@@ -20,11 +20,9 @@ use Rattle.model.specs.Runs.{fit}
 use Rattle.model.specs.Calls.{Answer, at, freed, no, Reply, noRoom, nothingAsked, refuse, allocRun, cutPage, markChunk, allocChunk, allocFor, alloc}
 use Rattle.model.specs.WellFormed.{WellFormed}
 use Rattle.model.proofs.Classes.{class-ok, own-few, chunk-ends, lowest-clear}
-use Rattle.plain.specs.declared.Plain.{Plain}
-use Rattle.plain.specs.declared.Served.{Served}
 use Rattle.plain.specs.Arrays.{placeOf}
 use Rattle.plain.specs.Table.{vacant, wrap, runOf, readRuns, firstFit, runAt}
-use Rattle.plain.specs.Plain.{Shaped, entryAt, markOf, pageAt, listed, listOf, readPlain}
+use Rattle.plain.specs.Plain.{Plain, Served, Shaped, entryAt, markOf, pageAt, listed, listOf, readPlain}
 use Rattle.plain.specs.Pages.{runTaken, refused, granted, offsetOf, allocAt, allocPages}
 use Rattle.plain.specs.Chunks.{newBytes, withByte, isNoPage, chunkRefused, pageCut, chunkTaken}
 use Rattle.plain.specs.Engine.{allocAnswer, freeAnswer, isReady, readyPage, chunkOffset, fromRun, fromRunBytes, fromPage, plainAlloc, plainAllocBytes}

@@ -9,11 +9,10 @@ use Rattle.model.specs.Classes.{own, lowest, hasClear, hasTaken}
 use Rattle.model.specs.Calls.{raise}
 use Rattle.plain.specs.Arrays.{remade, placeOf, pushed}
 use Rattle.plain.specs.Table.{vacant, carvedAt}
-use Rattle.plain.specs.Plain.{pageCount, entryAt, markOf, noCounts}
+use Rattle.plain.specs.Plain.{Plain, pageCount, entryAt, markOf, noCounts}
 use Rattle.plain.specs.Pages.{pagesFreed}
 use Rattle.plain.specs.declared.PageEntry.{PageEntry}
 use Rattle.plain.specs.declared.Counts.{Counts}
-use Rattle.plain.specs.declared.Plain.{Plain}
 
 -- ---- bytes of chunks
 

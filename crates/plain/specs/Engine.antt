@@ -9,11 +9,9 @@ use Rattle.model.specs.Classes.{chunk, own, lowest, hasClear, hasTaken, startsC
 use Rattle.model.specs.Calls.{Answer, at, freed, no}
 use Rattle.plain.specs.Arrays.{placeOf}
 use Rattle.plain.specs.Table.{vacant, wrap, firstFit}
-use Rattle.plain.specs.Plain.{pageCount, entryAt, markOf}
+use Rattle.plain.specs.Plain.{Plain, Served, pageCount, entryAt, markOf}
 use Rattle.plain.specs.Pages.{pagesFreed, refused, granted, allocPages}
 use Rattle.plain.specs.Chunks.{newBytes, withByte, isNoPage, chunkRefused, pageCut, chunkTaken, chunkFreed}
-use Rattle.plain.specs.declared.Plain.{Plain}
-use Rattle.plain.specs.declared.Served.{Served}
 
 -- what an answer says: document 01's number, or the offset, or the bytes released
 unfoldable pub allocAnswer : Served → Answer

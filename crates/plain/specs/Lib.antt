@@ -6,3 +6,4 @@ pub mod Pages
 pub mod Chunks
 pub mod Engine
 pub mod Fresh
+pub mod Mirror  -- the same on what is kept by value, in the order of the code

@@ -6,10 +6,8 @@ use lib.ListN.{getD}
 use Rattle.base.specs.Tests.{pick}
 use Rattle.plain.specs.Arrays.{remade}
 use Rattle.plain.specs.Table.{vacant, wrap, firstFit, carvedAt, released}
-use Rattle.plain.specs.Plain.{pageCount, freeEntry}
+use Rattle.plain.specs.Plain.{Plain, Served, pageCount, freeEntry}
 use Rattle.plain.specs.declared.PageEntry.{PageEntry}
-use Rattle.plain.specs.declared.Plain.{Plain}
-use Rattle.plain.specs.declared.Served.{Served}
 
 -- the entry of page j after the k pages from p on became a taken run
 unfoldable pub takenAt : ℕ → ℕ → ℕ → PageEntry → PageEntry

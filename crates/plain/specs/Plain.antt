@@ -12,13 +12,34 @@ use Rattle.model.specs.State.{Page, idle, slab, taken, inside, edge, Tally, Sta
 use Rattle.plain.specs.Table.{readRuns}
 use Rattle.plain.specs.declared.PageEntry.{PageEntry}
 use Rattle.plain.specs.declared.Counts.{Counts}
-use Rattle.plain.specs.declared.Plain.{Plain}
+use Rattle.plain.specs.declared.Extent.{Extent}
+use Rattle.plain.specs.declared.Kept.{Kept}
+
+-- the plain state but for the chunks
+pub record Plain : Type 0 where
+  -- the free runs in list order
+  pub runs : List Extent
+  pub pages : List PageEntry
+  -- the class pages with a free chunk in list order
+  pub ready : List ℕ
+  pub counts : List Counts
+  pub free : ℕ
+
+-- the answer of a call, as `Answer`
+pub record Served : Type 0 where
+  pub after : Plain
+  pub number : ℕ
+  pub value : ℕ
+
+-- what is kept by value, with a table of free runs
+abbrev pub plainOf : Kept → List Extent → Plain
+plainOf s t = record { runs = t; pages = s .pages; ready = s .ready; counts = s .counts; free = s .free }
 
 -- the pages that the plain engine serves
 abbrev pub pageCount : ℕ
 pageCount = 12
 
--- the tables have their lengths, which the arrays' types say, and the slice has a byte for each chunk
+-- the tables have their lengths and the slice has a byte for each chunk
 pub record Shaped (s : Plain) (b : List ℕ) : Type 0 where
   pub runs : length (s .runs) ≡ pageCount
   pub pages : length (s .pages) ≡ pageCount

@@ -21,10 +21,8 @@ pub struct Counts {
     pub fails: u32,
 }
 
-// The plain engine's state but for the chunks, which stand in a lent slice, one byte each.
-pub struct Plain {
-    // the free runs in list order; an entry of no pages is an empty place
-    pub runs: [Extent; 12],
+// What the engine keeps by value: all tables but that of the free runs and that of the chunks, which are lent.
+pub struct Kept {
     pub pages: [PageEntry; 12],
     // the class pages with a free chunk in list order, of all classes; a number past 11 is an empty place
     pub ready: [u8; 12],
@@ -34,8 +32,17 @@ pub struct Plain {
 }
 
 // The answer of a call: the refusal's number, 0 where it is granted, and the offset or the bytes released.
-pub struct Served {
-    pub after: Plain,
+pub struct Answer {
+    pub after: Kept,
     pub number: u8,
     pub value: u32,
+}
+
+// An answer with what the table of free runs is still to suffer: so many pages from the first on leave it or come back; 0 are none.
+pub struct Done {
+    pub after: Kept,
+    pub number: u8,
+    pub value: u32,
+    pub first: u32,
+    pub len: u32,
 }

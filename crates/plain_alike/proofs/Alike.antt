@@ -27,14 +27,15 @@ use Rattle.drawing.proofs.Laws.{none-broken, claims as laws-of}
 use Rattle.demands.specs.Calls.{answered, after, outcome}
 use Rattle.demands.specs.Demands.{Turn, Allowed, Rewritten, played, Demands}
 use Rattle.demands.proofs.Demands.{all-demands}
-use Rattle.plain.specs.Plain.{noCounts, pageAt, readPlain, tallyOf as plainTally}
+use Rattle.plain.specs.Plain.{Plain, Served, noCounts, pageAt, readPlain, tallyOf as plainTally}
 use Rattle.plain.specs.declared.Counts.{Counts}
-use Rattle.plain.specs.declared.Plain.{Plain}
-use Rattle.plain.specs.declared.Served.{Served}
+use Rattle.plain.specs.declared.Extent.{Extent}
 use Rattle.plain_rules.specs.Counts.{usedIn, totalIn, freeIn as plainFree}
 use Rattle.plain_rules.specs.Rules.{extentOk, countsOk, pageOk, isSound}
 use Rattle.plain_rules.proofs.Counted.{free-is, used-is, total-is}
-use Rattle.plain_engine.specs.Calls.{tableLength, outcomeOf, Serves, Formats}
+use Rattle.plain.specs.declared.Kept.{Kept}
+use Rattle.plain.specs.declared.Answer.{Answer}
+use Rattle.plain_decide.specs.Calls.{tableLength, outcomeOf, Serves, seen, servedAs, Lent, Formats}
 use Rattle.plain_alike.specs.Claim.{callsOf, poolAnswers, Played, SameCounts, Alike}
 
 -- ---- counts
@@ -82,17 +83,17 @@ same-fails : (x : Counts) (t : Tally) → plainTally x ≡ t → x .fails ≡ t 
 unfolding plainTally
 same-fails x t e = ap (λ (y : Tally). y .fails) e
 
-same-counts : (w : ℕ) (u : List ℕ) (t : Plain) (d : List ℕ) → brokenRule w u ≡ 0 → isSound t d ≡ true → read w u ≡ readPlain t d → SameCounts w u t
-same-counts w u t d e h f = record {
-  free = plain-free t d h ∙ ap (λ (m : State). freeIn (m .page) (m .size)) (sym f) ∙ sym (pool-free w u e);
-  used = λ c l. plain-counts t d h c l .0 ∙ ap (λ (m : State). usedOf m c) (sym f) ∙ sym (pool-used w u e c l);
-  total = λ c l. plain-counts t d h c l .1 ∙ ap (λ (m : State). shown m .total c) (sym f) ∙ sym (pool-total w u e c l);
-  reqs = λ c l. same-reqs (getD (t .counts) c noCounts) (tallyIn (classAt w u c)) (tally c l);
-  fails = λ c l. same-fails (getD (t .counts) c noCounts) (tallyIn (classAt w u c)) (tally c l);
+same-counts : (w : ℕ) (u : List ℕ) (k : Kept) (x : List Extent) (d : List ℕ) → brokenRule w u ≡ 0 → isSound (seen k x) d ≡ true → read w u ≡ readPlain (seen k x) d → SameCounts w u k
+same-counts w u k x d e h f = record {
+  free = plain-free (seen k x) d h ∙ ap (λ (m : State). freeIn (m .page) (m .size)) (sym f) ∙ sym (pool-free w u e);
+  used = λ c l. plain-counts (seen k x) d h c l .0 ∙ ap (λ (m : State). usedOf m c) (sym f) ∙ sym (pool-used w u e c l);
+  total = λ c l. plain-counts (seen k x) d h c l .1 ∙ ap (λ (m : State). shown m .total c) (sym f) ∙ sym (pool-total w u e c l);
+  reqs = λ c l. same-reqs (getD (k .counts) c noCounts) (tallyIn (classAt w u c)) (tally c l);
+  fails = λ c l. same-fails (getD (k .counts) c noCounts) (tallyIn (classAt w u c)) (tally c l);
 }
   where
-    tally : (c : ℕ) → c < 9 → plainTally (getD (t .counts) c noCounts) ≡ tallyIn (classAt w u c)
-    tally c l = plain-tally t d c ∙ ap (λ (m : State). m .tally c) (sym f) ∙ pool-tally w u c l
+    tally : (c : ℕ) → c < 9 → plainTally (getD (k .counts) c noCounts) ≡ tallyIn (classAt w u c)
+    tally c l = plain-tally (seen k x) d c ∙ ap (λ (m : State). m .tally c) (sym f) ∙ pool-tally w u c l
 
 -- ---- a list of turns
 
@@ -131,19 +132,20 @@ module _ (w : ℕ) (two : 2 ≤ w) (wide : w ≤ 255) where
       same = D .demand2 (S .sound) .state call ∙ ap (λ (m : State). step m call .after) (S .same) ∙ sym (G .state (S .whole) (S .ready));
     }
 
-  all-alike : (ts : List Turn) (s : List ℕ) (p : Plain) (b : List ℕ) → Shows s p b → Allowed w s ts → (os : List Outcome) (t : Plain) (d : List ℕ) → Played p b (callsOf ts) os t d →
-      (os ≡ poolAnswers w ts) × SameCounts w (played w s ts) t
-  all-alike [] s p b S A os t d (e, f, g) = (e, rw f (same-counts w s p b (S .sound) (S .ready) (S .same)))
-  all-alike (k ∷ ts) s p b S (R, A) os t d (r, e, rest, G, f, P) =
-      let U = rewritten s (k .bytes) p b S R in
-      let (x, y) = all-alike ts (after w (k .bytes) (k .call)) (r .after) e (next-alike (k .bytes) p b U (k .call) r e G) A rest t d P in
-      (f ∙ rw (answer-alike (k .bytes) p b U (k .call) r e G, x), y)
+  all-alike : (ts : List Turn) (s : List ℕ) (p : Kept) (x : List Extent) (b : List ℕ) → 12 ≤ length x → Shows s (seen p x) b → Allowed w s ts →
+      (os : List Outcome) (t : Kept) (y : List Extent) (d : List ℕ) → Played p x b (callsOf ts) os t y d → (os ≡ poolAnswers w ts) × SameCounts w (played w s ts) t
+  all-alike [] s p x b h S A os t y d (e, f, _, _) = (e, rw f (same-counts w s p x b (S .sound) (S .ready) (S .same)))
+  all-alike (k ∷ ts) s p x b h S (R, A) os t y d (r, u, e, rest, L, f, P) =
+      let U = rewritten s (k .bytes) (seen p x) b S R in
+      let G : Serves (seen p x) b (k .call) (servedAs r u) e = L .served h in
+      let (v, z) = all-alike ts (after w (k .bytes) (k .call)) (r .after) u e (omega (arith, L .kept)) (next-alike (k .bytes) (seen p x) b U (k .call) (servedAs r u) e G) A rest t y d P in
+      (f ∙ rw (answer-alike (k .bytes) (seen p x) b U (k .call) (servedAs r u) e G, v), z)
 
 pub alike : Alike
-alike w two wide s B low high twelve ts A f F b l os t d P =
-    all-alike w two wide ts (formatted w s) f b begins A os t d P
+alike w two wide s B low high twelve ts A f x h F b l os t y d P =
+    all-alike w two wide ts (formatted w s) f x b h begins A os t y d P
   where
-    begins : Shows w two wide (formatted w s) f b
+    begins : Shows w two wide (formatted w s) (seen f x) b
     begins =
         let L = laws-of w two wide s B in
         record {

@@ -1,1 +1,1 @@
-pub mod Fitting  -- the first fit is a run, and begins within the pages; bounds
+pub mod Fitting  -- a run begins within the pages; bounds

@@ -2,9 +2,8 @@
 use branchless::both;
 use branchless::one_if;
 use plain::Counts;
-use plain::Extent;
+use plain::Kept;
 use plain::PageEntry;
-use plain::Plain;
 ghost use mathlib.Core.Path.{_≡_};
 ghost use Prim.Native.Nat.{_*_, _≤_, _<_};
 ghost use lib.ListN.{getD};
@@ -12,7 +11,8 @@ ghost use Rattle.base.specs.Count.{count};
 ghost use Rattle.model.specs.Classes.{own, chunks};
 ghost use Rattle.plain.specs.Arrays.{remade};
 ghost use Rattle.plain.specs.Plain.{freeEntry, markOf};
-ghost use Rattle.plain_rules.specs.Counts.{freePage, ofClass, handsOn, usedOnPage, usedIn, classPage, totalIn, freeIn, classRecounted, recounted};
+ghost use Rattle.plain_rules.specs.Counts.{freePage, ofClass, handsOn, usedOnPage, usedIn, classPage, totalIn, freeIn, classRecounted};
+ghost use Rattle.plain_rules.specs.Mirror.{keptRecounted};
 
 // ---- pages
 
@@ -172,18 +172,16 @@ fn recount_all(pages: [PageEntry; 12], bytes: &[u8], mut counts: [Counts; 9]) ->
     counts
 }
 
-// The state with its counts made afresh; asks and failures stay.
-pub fn recount(s: Plain, bytes: &[u8]) -> Plain
-    ensures { λ r. ⌜ r ≡ recounted s (now (bytes .entry)) ⌝ }
+// What is kept with its counts made afresh; asks and failures stay.
+pub fn recount(s: Kept, bytes: &[u8]) -> Kept
+    ensures { λ r. ⌜ r ≡ keptRecounted s (now (bytes .entry)) ⌝ }
 {
-    let runs = s.runs;
     let pages = s.pages;
     let ready = s.ready;
     let before = s.counts;
     let counts = recount_all(pages, bytes, before);
     let free = count_free(pages);
-    Plain {
-        runs: runs,
+    Kept {
         pages: pages,
         ready: ready,
         counts: counts,

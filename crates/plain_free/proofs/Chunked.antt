@@ -11,15 +11,15 @@ use Rattle.base.specs.Tests.{pick}
 use Rattle.model.specs.Classes.{chunk, chunks, own, startsChunk, hasTaken}
 use Rattle.model.proofs.Classes.{chunk-index}
 use Rattle.plain.specs.Plain.{freeEntry}
-use Rattle.plain.specs.Engine.{freeChunkAt, freeChunkBytes}
+use Rattle.plain.specs.Engine.{freeChunkBytes}
+use Rattle.plain.specs.Mirror.{chunkAtDone, chunkAtBytes, classDone}
 use Rattle.plain.specs.declared.PageEntry.{PageEntry}
-use Rattle.plain.specs.declared.Plain.{Plain}
-use Rattle.plain.specs.declared.Served.{Served}
-use Rattle.plain.specs.Pages.{refused}
+use Rattle.plain.specs.declared.Kept.{Kept}
+use Rattle.plain.specs.declared.Done.{Done}
 use Rattle.plain.proofs.Bytes.{chunks-most}
 use Rattle.plain_rules.specs.Counts.{handsOn}
 use Rattle.plain_rules.proofs.Counted.{hands-taken}
-use Rattle.plain_free.specs.Mirror.{Classed, AllClassed, chunkAt, chunkAtBytes}
+use Rattle.plain_free.specs.Mirror.{Classed, AllClassed}
 
 both-and : (t u : Bool) → pick t u false ≡ t && u
 unfolding pick
@@ -43,9 +43,9 @@ index-below c q size h l e = rw e (chunk-index c h (q / chunk c) (omega (arith, 
 
 -- ---- what begins so many bytes into a page
 
-module _ (s : Plain) (b : List ℕ) (p c q size : ℕ) (e : size ≡ chunk c) where
-  pub start-freed : (r : Served) (u : Bool) → u ≡ startsChunk c q → u ≡ true → r ≡ chunkAt s b p c (q / size) → r ≡ freeChunkAt s b p c q
-  unfolding freeChunkAt chunkAt pick
+module _ (s : Kept) (b : List ℕ) (p c q size : ℕ) (e : size ≡ chunk c) where
+  pub start-freed : (r : Done) (u : Bool) → u ≡ startsChunk c q → u ≡ true → r ≡ chunkAtDone s b p c (q / size) → r ≡ classDone s b p c q
+  unfolding classDone chunkAtDone pick
   start-freed r u d t h = rw (sym d ∙ t) (rw e at h)
 
 module _ (b : List ℕ) (p c q size : ℕ) (e : size ≡ chunk c) where

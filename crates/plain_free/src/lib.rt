@@ -1,33 +1,34 @@
 // Free on a sound plain state, as SPEC 4.7 to 4.9 tell it. `bytes` has a byte for each chunk.
 use branchless::both;
-use plain::Extent;
+use plain::Counts;
+use plain::Done;
+use plain::Kept;
 use plain::PageEntry;
-use plain::Plain;
-use plain::Served;
 ghost use mathlib.Core.Path.{_≡_};
 ghost use Prim.Native.Nat.{_/_, _≤_, _<_};
 ghost use lib.ListN.{getD};
-ghost use Rattle.model.specs.Classes.{chunk, chunks, startsChunk, hasClear, hasTaken};
-ghost use Rattle.plain.specs.Plain.{entryAt, markOf};
-ghost use Rattle.plain.specs.Pages.{granted, pagesFreed, offsetOf};
-ghost use Rattle.plain.specs.Chunks.{withByte, chunkFreed};
-ghost use Rattle.plain.specs.Engine.{freeMarked, freeChunkAt, freeChunkBytes, freeRunAt, freeIn, freeInBytes, plainFree, plainFreeBytes};
-ghost use Rattle.plain_free.specs.Mirror.{Classed, AllClassed, kindFreed, kindFreedBytes, chunkAt, chunkAtBytes};
+ghost use Rattle.model.specs.Classes.{chunk, chunks, startsChunk, hasTaken};
+ghost use Rattle.plain.specs.Plain.{freeEntry, markOf};
+ghost use Rattle.plain.specs.Pages.{offsetOf};
+ghost use Rattle.plain.specs.Chunks.{withByte};
+ghost use Rattle.plain.specs.Engine.{freeChunkBytes};
+ghost use Rattle.plain.specs.Mirror.{doneWith, keptFreed, chunkBackDone, markedDone, chunkAtDone, chunkAtBytes, classDone, runDone, kindDone, kindDoneBytes, inDone, inDoneBytes, keptFree, keptFreeBytes};
+ghost use Rattle.plain_free.specs.Mirror.{Classed, AllClassed};
 
-// The state afterwards, with the bytes released or the refusal's number.
-pub fn free_sound(s: Plain, bytes: &mut [u8], at: u32) -> Served
+// What is kept afterwards, with the bytes released or the refusal's number.
+pub fn free_sound(s: Kept, bytes: &mut [u8], at: u32) -> Done
     requires { ⌜ AllClassed (s .pages) ⌝ }
-    ensures answer { λ r. ⌜ r ≡ plainFree s (now (bytes .entry)) at ⌝ }
-    ensures slice { λ _. ⌜ now (bytes .exit) ≡ plainFreeBytes s (now (bytes .entry)) at ⌝ }
+    ensures answer { λ r. ⌜ r ≡ keptFree s (now (bytes .entry)) at ⌝ }
+    ensures slice { λ _. ⌜ now (bytes .exit) ≡ keptFreeBytes s (now (bytes .entry)) at ⌝ }
 {
     free_in(s, bytes, (at / 4096) as usize, at % 4096)
 }
 
 // Of the block that begins q bytes into page p.
-fn free_in(s: Plain, bytes: &mut [u8], p: usize, q: u32) -> Served
+fn free_in(s: Kept, bytes: &mut [u8], p: usize, q: u32) -> Done
     requires { ⌜ (q < 4096) × AllClassed (s .pages) ⌝ }
-    ensures answer { λ r. ⌜ r ≡ freeIn s (now (bytes .entry)) p q ⌝ }
-    ensures slice { λ _. ⌜ now (bytes .exit) ≡ freeInBytes s (now (bytes .entry)) p q ⌝ }
+    ensures answer { λ r. ⌜ r ≡ inDone s (now (bytes .entry)) p q ⌝ }
+    ensures slice { λ _. ⌜ now (bytes .exit) ≡ inDoneBytes s (now (bytes .entry)) p q ⌝ }
 {
     if p < 12 {
         return free_page(s, bytes, p, q);
@@ -35,10 +36,10 @@ fn free_in(s: Plain, bytes: &mut [u8], p: usize, q: u32) -> Served
     plain_pages::refuse(s, 5)
 }
 
-fn free_page(s: Plain, bytes: &mut [u8], p: usize, q: u32) -> Served
+fn free_page(s: Kept, bytes: &mut [u8], p: usize, q: u32) -> Done
     requires { ⌜ (p < 12) × (q < 4096) × AllClassed (s .pages) ⌝ }
-    ensures answer { λ r. ⌜ r ≡ kindFreed s (now (bytes .entry)) p q (entryAt s p) ⌝ }
-    ensures slice { λ _. ⌜ now (bytes .exit) ≡ kindFreedBytes (now (bytes .entry)) p q (entryAt s p) ⌝ }
+    ensures answer { λ r. ⌜ r ≡ kindDone s (now (bytes .entry)) p q (getD (s .pages) p freeEntry) ⌝ }
+    ensures slice { λ _. ⌜ now (bytes .exit) ≡ kindDoneBytes (now (bytes .entry)) p q (getD (s .pages) p freeEntry) ⌝ }
 {
     let pages = s.pages;
     let e = plain_counts::entry(pages, p);
@@ -46,10 +47,10 @@ fn free_page(s: Plain, bytes: &mut [u8], p: usize, q: u32) -> Served
 }
 
 // By the page's kind.
-fn free_kind(s: Plain, bytes: &mut [u8], p: u8, q: u32, e: PageEntry) -> Served
+fn free_kind(s: Kept, bytes: &mut [u8], p: u8, q: u32, e: PageEntry) -> Done
     requires { ⌜ (p < 12) × (q < 4096) × Classed e ⌝ }
-    ensures answer { λ r. ⌜ r ≡ kindFreed s (now (bytes .entry)) p q e ⌝ }
-    ensures slice { λ _. ⌜ now (bytes .exit) ≡ kindFreedBytes (now (bytes .entry)) p q e ⌝ }
+    ensures answer { λ r. ⌜ r ≡ kindDone s (now (bytes .entry)) p q e ⌝ }
+    ensures slice { λ _. ⌜ now (bytes .exit) ≡ kindDoneBytes (now (bytes .entry)) p q e ⌝ }
 {
     if e.kind == 0 {
         return plain_pages::refuse(s, 6);
@@ -65,8 +66,8 @@ fn free_kind(s: Plain, bytes: &mut [u8], p: u8, q: u32, e: PageEntry) -> Served
 
 // ---- a run
 
-fn free_run(s: Plain, p: u8, n: u32, q: u32) -> Served
-    ensures { λ r. ⌜ r ≡ freeRunAt s p n q ⌝ }
+fn free_run(s: Kept, p: u8, n: u32, q: u32) -> Done
+    ensures { λ r. ⌜ r ≡ runDone s p n q ⌝ }
 {
     if q == 0 {
         return give_run(s, p, n);
@@ -74,12 +75,12 @@ fn free_run(s: Plain, p: u8, n: u32, q: u32) -> Served
     plain_pages::refuse(s, 7)
 }
 
-fn give_run(s: Plain, p: u8, n: u32) -> Served
-    ensures { λ r. ⌜ r ≡ granted (pagesFreed s p n) (offsetOf n) ⌝ }
+fn give_run(s: Kept, p: u8, n: u32) -> Done
+    ensures { λ r. ⌜ r ≡ doneWith (keptFreed s p n) (offsetOf n) p n ⌝ }
 {
     let bytes = plain_pages::offset_of(n);
     let after = plain_pages::free_pages(s, p as u32, n);
-    plain_pages::grant(after, bytes)
+    plain_pages::grant_with(after, bytes, p as u32, n)
 }
 
 // ---- a chunk
@@ -94,18 +95,18 @@ fn starts_chunk(c: u8, q: u32, size: u32) -> bool
 }
 
 // Off a chunk's start, or a chunk of the map, is refused first.
-fn free_class(s: Plain, bytes: &mut [u8], p: u8, c: u8, q: u32) -> Served
+fn free_class(s: Kept, bytes: &mut [u8], p: u8, c: u8, q: u32) -> Done
     requires { ⌜ (p < 12) × (c ≤ 8) × (q < 4096) ⌝ }
-    ensures answer { λ r. ⌜ r ≡ freeChunkAt s (now (bytes .entry)) p c q ⌝ }
+    ensures answer { λ r. ⌜ r ≡ classDone s (now (bytes .entry)) p c q ⌝ }
     ensures slice { λ _. ⌜ now (bytes .exit) ≡ freeChunkBytes (now (bytes .entry)) p c q ⌝ }
 {
     let size = sizes::chunk_size(c);
     free_sized(s, bytes, p, c, q, size)
 }
 
-fn free_sized(s: Plain, bytes: &mut [u8], p: u8, c: u8, q: u32, size: u32) -> Served
+fn free_sized(s: Kept, bytes: &mut [u8], p: u8, c: u8, q: u32, size: u32) -> Done
     requires { ⌜ (p < 12) × (c ≤ 8) × (q < 4096) × (size ≡ chunk c) × (1 ≤ size) ⌝ }
-    ensures answer { λ r. ⌜ r ≡ freeChunkAt s (now (bytes .entry)) p c q ⌝ }
+    ensures answer { λ r. ⌜ r ≡ classDone s (now (bytes .entry)) p c q ⌝ }
     ensures slice { λ _. ⌜ now (bytes .exit) ≡ freeChunkBytes (now (bytes .entry)) p c q ⌝ }
 {
     if starts_chunk(c, q, size) {
@@ -114,9 +115,9 @@ fn free_sized(s: Plain, bytes: &mut [u8], p: u8, c: u8, q: u32, size: u32) -> Se
     plain_pages::refuse(s, 7)
 }
 
-fn free_chunk(s: Plain, bytes: &mut [u8], p: u8, c: u8, i: usize) -> Served
+fn free_chunk(s: Kept, bytes: &mut [u8], p: u8, c: u8, i: usize) -> Done
     requires { ⌜ (p < 12) × (c ≤ 8) × (i < chunks c) ⌝ }
-    ensures answer { λ r. ⌜ r ≡ chunkAt s (now (bytes .entry)) p c i ⌝ }
+    ensures answer { λ r. ⌜ r ≡ chunkAtDone s (now (bytes .entry)) p c i ⌝ }
     ensures slice { λ _. ⌜ now (bytes .exit) ≡ chunkAtBytes (now (bytes .entry)) p c i ⌝ }
 {
     if is_marked(bytes, p, c, i) {
@@ -134,9 +135,9 @@ fn is_marked(bytes: &[u8], p: u8, c: u8, i: usize) -> bool
 }
 
 // The mark is cleared; a page that was full returns to the head of the list, and one without a chunk in callers' hands is released.
-fn free_marked(s: Plain, bytes: &mut [u8], p: u8, c: u8, i: usize) -> Served
+fn free_marked(s: Kept, bytes: &mut [u8], p: u8, c: u8, i: usize) -> Done
     requires { ⌜ (p < 12) × (c ≤ 8) × (i < chunks c) ⌝ }
-    ensures answer { λ r. ⌜ r ≡ freeMarked s (now (bytes .entry)) p c i ⌝ }
+    ensures answer { λ r. ⌜ r ≡ markedDone s (now (bytes .entry)) p c i ⌝ }
     ensures slice { λ _. ⌜ now (bytes .exit) ≡ withByte (now (bytes .entry)) p i 0 ⌝ }
 {
     let n = classes::chunk_count(c);
@@ -153,11 +154,10 @@ fn has_taken(bytes: &[u8], p: u8, c: u8) -> bool
     0 < plain_counts::hands_on(bytes, p as usize, c)
 }
 
-fn take_back(s: Plain, p: u8, c: u8, clear: bool, left: bool) -> Served
+fn take_back(s: Kept, p: u8, c: u8, clear: bool, left: bool) -> Done
     requires { ⌜ c ≤ 8 ⌝ }
-    ensures { λ r. ⌜ r ≡ granted (chunkFreed s p clear left) (chunk c) ⌝ }
+    ensures { λ r. ⌜ r ≡ chunkBackDone s p (chunk c) clear left ⌝ }
 {
     let bytes = sizes::chunk_size(c);
-    let after = plain_tables::free_chunk(s, p, clear, left);
-    plain_pages::grant(after, bytes)
+    plain_tables::free_chunk(s, p, bytes, clear, left)
 }

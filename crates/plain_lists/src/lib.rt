@@ -1,17 +1,14 @@
-// Rules 2 to 4 on a plain state: the table of free runs, and the list of pages with a free chunk.
+// Rules 2 to 4 on a plain state: an entry of the table of free runs, and the list of pages with a free chunk.
 use branchless::one_if;
 use plain::Extent;
 use plain::PageEntry;
 ghost use mathlib.Core.Path.{_≡_};
 ghost use Prim.Native.Nat.{_<_};
-ghost use lib.ListN.{getD};
-ghost use Rattle.base.specs.Tests.{allBelow};
 ghost use Rattle.model.specs.Classes.{hasClear};
-ghost use Rattle.plain.specs.Table.{vacant};
 ghost use Rattle.plain.specs.Plain.{markOf};
-ghost use Rattle.plain_rules.specs.Rules.{howMany, freeBefore, apart, stretchOk, extentOk, holdsPage, runsOk, isOpen, isPage, listOk};
+ghost use Rattle.plain_rules.specs.Rules.{howMany, freeBefore, apart, stretchOk, extentOk, holdsPage, isOpen, isPage, listOk};
 
-// ---- rules 2 and 3: the table of free runs
+// ---- rules 2 and 3: an entry of the table of free runs
 
 fn free_before(pages: [PageEntry; 12], p: usize) -> bool
     ensures { λ r. ⌜ r ≡ freeBefore pages p ⌝ }
@@ -44,7 +41,8 @@ fn stretch_ok(pages: [PageEntry; 12], p: usize, q: usize) -> bool
     false
 }
 
-fn extent_ok(pages: [PageEntry; 12], e: Extent) -> bool
+// A run that ends within the pages, and that no free page borders, or an empty place.
+pub fn extent_ok(pages: [PageEntry; 12], e: Extent) -> bool
     ensures { λ r. ⌜ r ≡ extentOk pages e ⌝ }
 {
     if e.len == 0 {
@@ -53,48 +51,14 @@ fn extent_ok(pages: [PageEntry; 12], e: Extent) -> bool
     stretch_ok(pages, e.first as usize, e.first as usize + e.len as usize)
 }
 
-// Each entry of the table is a run that ends within the pages, and that no free page borders, or an empty place.
-pub fn extents_ok(pages: [PageEntry; 12], runs: [Extent; 12]) -> bool
-    ensures { λ r. ⌜ r ≡ allBelow (λ i. extentOk pages (getD runs i vacant)) 12 ⌝ }
-{
-    let mut i: usize = 0;
-    while i < 12 {
-        if !extent_ok(pages, runs[i]) {
-            return false;
-        }
-        i += 1;
-    }
-    true
-}
-
-fn holds_page(e: Extent, p: usize) -> bool
+// Whether an entry has page p.
+pub fn holds_page(e: Extent, p: usize) -> bool
     ensures { λ r. ⌜ r ≡ holdsPage p e ⌝ }
 {
     if e.first as usize <= p {
         return p < e.first as usize + e.len as usize;
     }
     false
-}
-
-fn count_holding(runs: [Extent; 12], p: usize) -> u64
-    ensures { λ r. ⌜ r ≡ howMany (holdsPage p) runs ⌝ }
-{
-    let mut k: u64 = 0;
-    let mut i: usize = 0;
-    while i < 12 {
-        k += one_if(holds_page(runs[i], p));
-        i += 1;
-    }
-    k
-}
-
-// A free page stands in one entry, any other in none.
-pub fn runs_ok(pages: [PageEntry; 12], runs: [Extent; 12], p: usize) -> bool
-    ensures { λ r. ⌜ r ≡ runsOk pages runs p ⌝ }
-{
-    let times = count_holding(runs, p);
-    let due = one_if(plain_counts::is_free(pages, p));
-    times == due
 }
 
 // ---- rule 4: the list of pages with a free chunk

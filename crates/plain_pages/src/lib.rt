@@ -1,15 +1,13 @@
-// Pages taken and released, on the plain state by value.
+// Pages taken and released, on what is kept by value.
 use plain::Counts;
+use plain::Done;
 use plain::Extent;
+use plain::Kept;
 use plain::PageEntry;
-use plain::Plain;
-use plain::Served;
 ghost use mathlib.Core.Path.{_≡_};
-ghost use Prim.Native.Nat.{_+_, _-_, _<_};
-ghost use lib.ListN.{getD};
 ghost use Rattle.plain.specs.Arrays.{remade};
-ghost use Rattle.plain.specs.Table.{vacant};
-ghost use Rattle.plain.specs.Pages.{takenAt, freedAt, runTaken, pagesFreed, granted, refused, offsetOf, allocAt, allocPages};
+ghost use Rattle.plain.specs.Pages.{takenAt, freedAt, offsetOf};
+ghost use Rattle.plain.specs.Mirror.{doneWith, doneGranted, doneRefused, keptTaken, keptFreed, pagesDone};
 
 // The entry of page j after the k pages from p on became a taken run.
 fn taken_at(p: u32, k: u32, j: u32, e: PageEntry) -> PageEntry
@@ -78,20 +76,15 @@ fn all_freed(mut pages: [PageEntry; 12], p: u32, k: u32) -> [PageEntry; 12]
     pages
 }
 
-// The front k pages of the run at place i of the table become a taken run.
-pub fn take_run(s: Plain, k: u32, i: usize) -> Plain
-    requires { ⌜ i < 12 ⌝ }
-    ensures { λ r. ⌜ r ≡ runTaken s k i ⌝ }
+// The k pages from p on become a taken run.
+fn take_pages(s: Kept, p: u32, k: u32) -> Kept
+    ensures { λ r. ⌜ r ≡ keptTaken s p k ⌝ }
 {
-    let table = s.runs;
-    let e = plain_runs::entry(table, i);
-    let runs = plain_runs::carve_at(table, i, k);
     let before = s.pages;
-    let pages = all_taken(before, e.first, k);
+    let pages = all_taken(before, p, k);
     let ready = s.ready;
     let counts = s.counts;
-    Plain {
-        runs: runs,
+    Kept {
         pages: pages,
         ready: ready,
         counts: counts,
@@ -100,17 +93,14 @@ pub fn take_run(s: Plain, k: u32, i: usize) -> Plain
 }
 
 // The k pages from p on become free.
-pub fn free_pages(s: Plain, p: u32, k: u32) -> Plain
-    ensures { λ r. ⌜ r ≡ pagesFreed s p k ⌝ }
+pub fn free_pages(s: Kept, p: u32, k: u32) -> Kept
+    ensures { λ r. ⌜ r ≡ keptFreed s p k ⌝ }
 {
-    let table = s.runs;
-    let runs = plain_runs::release(table, p, k);
     let before = s.pages;
     let pages = all_freed(before, p, k);
     let ready = s.ready;
     let counts = s.counts;
-    Plain {
-        runs: runs,
+    Kept {
         pages: pages,
         ready: ready,
         counts: counts,
@@ -120,23 +110,41 @@ pub fn free_pages(s: Plain, p: u32, k: u32) -> Plain
 
 // ---- answers
 
-pub fn grant(s: Plain, value: u32) -> Served
-    ensures { λ r. ⌜ r ≡ granted s value ⌝ }
+// The table of free runs stays.
+pub fn grant(s: Kept, value: u32) -> Done
+    ensures { λ r. ⌜ r ≡ doneGranted s value ⌝ }
 {
-    Served {
+    Done {
         after: s,
         number: 0,
         value: value,
+        first: 0,
+        len: 0,
     }
 }
 
-pub fn refuse(s: Plain, number: u8) -> Served
-    ensures { λ r. ⌜ r ≡ refused s number ⌝ }
+// The k pages from p on leave the table of free runs or come back.
+pub fn grant_with(s: Kept, value: u32, p: u32, k: u32) -> Done
+    ensures { λ r. ⌜ r ≡ doneWith s value p k ⌝ }
 {
-    Served {
+    Done {
+        after: s,
+        number: 0,
+        value: value,
+        first: p,
+        len: k,
+    }
+}
+
+pub fn refuse(s: Kept, number: u8) -> Done
+    ensures { λ r. ⌜ r ≡ doneRefused s number ⌝ }
+{
+    Done {
         after: s,
         number: number,
         value: 0,
+        first: 0,
+        len: 0,
     }
 }
 
@@ -147,32 +155,20 @@ pub fn offset_of(p: u32) -> u32
     ((4096 * (p as u64)) % 4294967296) as u32
 }
 
-fn grant_run(s: Plain, k: u32, i: usize) -> Served
-    requires { ⌜ i < 12 ⌝ }
-    ensures { λ r. ⌜ r ≡ granted (runTaken s k i) (offsetOf (getD (s .runs) i vacant .first)) ⌝ }
+fn grant_run(s: Kept, p: u32, k: u32) -> Done
+    ensures { λ r. ⌜ r ≡ doneWith (keptTaken s p k) (offsetOf p) p k ⌝ }
 {
-    let table = s.runs;
-    let e = plain_runs::entry(table, i);
-    let at = offset_of(e.first);
-    let after = take_run(s, k, i);
-    grant(after, at)
+    let at = offset_of(p);
+    let after = take_pages(s, p, k);
+    grant_with(after, at, p, k)
 }
 
-// Alloc of k pages from the run at place i of the table; there is none past its end.
-fn alloc_at(s: Plain, k: u32, i: usize) -> Served
-    ensures { λ r. ⌜ r ≡ allocAt s k i ⌝ }
+// Alloc of k pages from the run e; an empty place is none.
+pub fn alloc_from(s: Kept, k: u32, e: Extent) -> Done
+    ensures { λ r. ⌜ r ≡ pagesDone s k e ⌝ }
 {
-    if i < 12 {
-        return grant_run(s, k, i);
+    if e.len == 0 {
+        return refuse(s, 4);
     }
-    refuse(s, 4)
-}
-
-// Alloc of k pages.
-pub fn alloc_pages(s: Plain, k: u32) -> Served
-    ensures { λ r. ⌜ r ≡ allocPages s k ⌝ }
-{
-    let table = s.runs;
-    let i = plain_runs::first_fit(table, k);
-    alloc_at(s, k, i)
+    grant_run(s, e.first, k)
 }

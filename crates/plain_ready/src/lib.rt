@@ -1,12 +1,11 @@
 // The first page of a class with a free chunk, found by scanning the list.
-use plain::Extent;
+use plain::Counts;
+use plain::Kept;
 use plain::PageEntry;
-use plain::Plain;
 ghost use mathlib.Core.Path.{_≡_};
 ghost use lib.ListN.{getD};
 ghost use Rattle.plain.specs.Arrays.{placeOf};
-ghost use Rattle.plain_ready.specs.Mirror.{classIn, readyIn};
-ghost use Rattle.plain.specs.Engine.{readyPage};
+ghost use Rattle.plain.specs.Mirror.{classIn, readyIn, keptReady};
 
 fn is_ready(pages: [PageEntry; 12], c: u8, p: u8) -> bool
     ensures { λ r. ⌜ r ≡ readyIn pages c p ⌝ }
@@ -39,8 +38,8 @@ fn first_ready(pages: [PageEntry; 12], ready: [u8; 12], c: u8) -> u8
 }
 
 // A number past the pages where there is none.
-pub fn ready_page(s: Plain, c: u8) -> u8
-    ensures { λ r. ⌜ r ≡ readyPage s c ⌝ }
+pub fn ready_page(s: Kept, c: u8) -> u8
+    ensures { λ r. ⌜ r ≡ keptReady s c ⌝ }
 {
     let pages = s.pages;
     let ready = s.ready;

@@ -18,8 +18,7 @@ use Rattle.model.specs.State.{Page, idle, slab, taken, inside, edge, State, isI
 use Rattle.model.specs.View.{isClass, kindOf, usedOn, usedOf, totalIn as totalShown, shown}
 use Rattle.plain.specs.declared.PageEntry.{PageEntry}
 use Rattle.plain.specs.declared.Counts.{Counts}
-use Rattle.plain.specs.declared.Plain.{Plain}
-use Rattle.plain.specs.Plain.{freeEntry, entryAt, markOf, pageOf, pageAt, listOf, noCounts, tallyOf, readPlain}
+use Rattle.plain.specs.Plain.{Plain, freeEntry, entryAt, markOf, pageOf, pageAt, listOf, noCounts, tallyOf, readPlain}
 use Rattle.plain.specs.Arrays.{remade}
 use Rattle.plain.proofs.Loops.{getD-remade, getD-past, length-remade}
 use Rattle.plain.proofs.Shown.{page-in, page-past}

@@ -17,9 +17,8 @@ use Rattle.model.specs.State.{most, State, Tally, isIdle}
 use Rattle.model.specs.View.{usedOf, shown}
 use Rattle.model.specs.WellFormed.{TallyOk, WellFormed}
 use Rattle.plain.specs.declared.Extent.{Extent}
-use Rattle.plain.specs.declared.Plain.{Plain}
 use Rattle.plain.specs.Table.{vacant}
-use Rattle.plain.specs.Plain.{Shaped, freeEntry, entryAt, pageAt, noCounts, tallyOf, readPlain}
+use Rattle.plain.specs.Plain.{Plain, Shaped, freeEntry, entryAt, pageAt, noCounts, tallyOf, readPlain}
 use Rattle.plain.proofs.Loops.{getD-past}
 use Rattle.plain.proofs.Shown.{page-past}
 use Rattle.plain_rules.specs.Counts.{freePage, usedIn, totalIn, freeIn}

@@ -5,3 +5,4 @@ pub mod Paged  -- rules 2 and 5: pages
 pub mod Covered  -- rules 2 and 3: the table of free runs
 pub mod Listed  -- rule 4: the list of pages with a free chunk
 pub mod Judged
+pub mod Split  -- a plain state is sound by its table of free runs and by what is kept

@@ -19,8 +19,7 @@ use Rattle.model.specs.Classes.{hasClear}
 use Rattle.model.specs.State.{Page, slab, isOpen as opens}
 use Rattle.model.specs.WellFormed.{ListsOk, WellFormed}
 use Rattle.model.proofs.Lists.{open-is, open-slab}
-use Rattle.plain.specs.declared.Plain.{Plain}
-use Rattle.plain.specs.Plain.{entryAt, markOf, pageAt, listed, listOf, readPlain}
+use Rattle.plain.specs.Plain.{Plain, entryAt, markOf, pageAt, listed, listOf, readPlain}
 use Rattle.plain.proofs.Marked.{ClassPage, class-page, class-shown, on-list, on-own, list-listed, listed-once}
 use Rattle.plain_rules.specs.Rules.{howMany, isOpen, isPage, listOk}
 use Rattle.plain_rules.proofs.Many.{many-none, many-tail, many-head, many-skip, mem-many, many-mem}

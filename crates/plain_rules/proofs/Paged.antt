@@ -18,8 +18,7 @@ use Rattle.model.specs.State.{Page, idle, slab, taken, inside, edge}
 use Rattle.model.specs.WellFormed.{ClassOk, PageOk, TableOk}
 use Rattle.model.proofs.Table.{slab-ok, taken-ok}
 use Rattle.plain.specs.declared.PageEntry.{PageEntry}
-use Rattle.plain.specs.declared.Plain.{Plain}
-use Rattle.plain.specs.Plain.{Shaped, freeEntry, entryAt, markOf, pageOf, pageAt}
+use Rattle.plain.specs.Plain.{Plain, Shaped, freeEntry, entryAt, markOf, pageOf, pageAt}
 use Rattle.plain.proofs.Loops.{getD-past}
 use Rattle.plain.proofs.Shown.{page-in, page-past}
 use Rattle.plain.proofs.Bytes.{mark-past}

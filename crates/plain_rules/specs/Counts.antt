@@ -8,10 +8,9 @@ use Rattle.base.specs.Tests.{pick}
 use Rattle.base.specs.Count.{sum, count}
 use Rattle.model.specs.Classes.{chunks, own, counted}
 use Rattle.plain.specs.Arrays.{remade}
-use Rattle.plain.specs.Plain.{pageCount, freeEntry, markOf}
+use Rattle.plain.specs.Plain.{Plain, pageCount, freeEntry, markOf}
 use Rattle.plain.specs.declared.PageEntry.{PageEntry}
 use Rattle.plain.specs.declared.Counts.{Counts}
-use Rattle.plain.specs.declared.Plain.{Plain}
 
 -- page p is one of the pages and free
 unfoldable pub freePage : (t : List PageEntry) (p : ℕ) → Bool

@@ -9,11 +9,10 @@ use Rattle.base.specs.Count.{bit}
 use Rattle.base.specs.Search.{any}
 use Rattle.model.specs.Classes.{own, hasClear}
 use Rattle.plain.specs.Table.{vacant, isVacant}
-use Rattle.plain.specs.Plain.{pageCount, freeEntry, markOf, noCounts}
+use Rattle.plain.specs.Plain.{Plain, pageCount, freeEntry, markOf, noCounts}
 use Rattle.plain.specs.declared.Extent.{Extent}
 use Rattle.plain.specs.declared.PageEntry.{PageEntry}
 use Rattle.plain.specs.declared.Counts.{Counts}
-use Rattle.plain.specs.declared.Plain.{Plain}
 use Rattle.plain_rules.specs.Counts.{freePage, handsOn, usedIn, totalIn, freeIn}
 
 -- how many entries pass the test

@@ -9,8 +9,7 @@ use Rattle.base.specs.Count.{count}
 use Rattle.model.specs.State.{most, isIdle}
 use Rattle.model.specs.WellFormed.{WellFormed}
 use Rattle.model.specs.View.{usedOf, shown}
-use Rattle.plain.specs.Plain.{pageCount, Shaped, entryAt, pageAt, noCounts, readPlain}
-use Rattle.plain.specs.declared.Plain.{Plain}
+use Rattle.plain.specs.Plain.{Plain, pageCount, Shaped, entryAt, pageAt, noCounts, readPlain}
 use Rattle.plain_rules.specs.Rules.{isSound}
 
 -- asks and failures have 32 bits, which their types say

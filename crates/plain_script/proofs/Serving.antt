@@ -25,14 +25,15 @@ use Rattle.script_summary.specs.Summary.{summaryLine}
 use Rattle.script.specs.Script.{pages, reply, next, replies, final, joined, summary, exchange, transcript}
 use Rattle.script.proofs.Room.{exchange-fits, summary-few, line-few}
 use Rattle.plain.specs.Table.{isVacant, holds, runOf, readRuns}
-use Rattle.plain.specs.Plain.{readPlain}
+use Rattle.plain.specs.Plain.{Plain, readPlain}
 use Rattle.plain.specs.declared.Extent.{Extent}
-use Rattle.plain.specs.declared.Plain.{Plain}
-use Rattle.plain.specs.declared.Served.{Served}
 use Rattle.plain_rules.specs.Counts.{freeIn as plainFree}
 use Rattle.plain_rules.specs.Rules.{howMany, isSound}
 use Rattle.plain_rules.proofs.Counted.{free-is}
-use Rattle.plain_engine.specs.Calls.{outcomeOf, Serves, Formats}
+use Rattle.plain_decide.specs.Calls.{outcomeOf, Serves, Formats}
+use Rattle.plain_host.specs.Host.{shown, told}
+use Rattle.plain_host.specs.declared.Host.{Host}
+use Rattle.plain_host.specs.declared.Reply.{Reply}
 use Rattle.plain_script.specs.Serving.{Replied, Answered}
 use Rattle.plain_script.specs.declared.Turn.{Turn}
 
@@ -49,8 +50,8 @@ module _ (s u : List ℕ) (n m : ℕ) (word : List ℕ) (k v : ℕ) where
   unfolding outcomeLine pick
   says-refused e p = rw (ne-eqb k 0 e) (p .0, p .1)
 
-module _ (s : Plain) (b u v : List ℕ) (n m : ℕ) (r : Served) (d : List ℕ) (h : 6144 ≤ length b) (z : isSound s b ≡ true) where
-  pub take-replied : (size : ℕ) → Serves s b (Alloc size) r d → Prints u v n m (allocLine (outcomeOf r)) → Replied s b (some (Alloc size)) u v n (record { after = r .after; at = m }) d
+module _ (s : Plain) (b u v : List ℕ) (n m : ℕ) (r : Reply) (d : List ℕ) (h : 6144 ≤ length b) (z : isSound s b ≡ true) where
+  pub take-replied : (size : ℕ) → Serves s b (Alloc size) (told r) d → Prints u v n m (allocLine (outcomeOf (told r))) → Replied s b (some (Alloc size)) u v n (record { after = r .after; at = m }) d
   unfolding reply next replyLine
   take-replied size G (p, q) = record {
     place = p ∙ ap (λ (o : Outcome). n + length (allocLine o)) (G .answer h z);
@@ -60,7 +61,7 @@ module _ (s : Plain) (b u v : List ℕ) (n m : ℕ) (r : Served) (d : List ℕ) 
     long = G .long;
   }
 
-  pub give-replied : (off : ℕ) → Serves s b (Free off) r d → Prints u v n m (freeLine (outcomeOf r)) → Replied s b (some (Free off)) u v n (record { after = r .after; at = m }) d
+  pub give-replied : (off : ℕ) → Serves s b (Free off) (told r) d → Prints u v n m (freeLine (outcomeOf (told r))) → Replied s b (some (Free off)) u v n (record { after = r .after; at = m }) d
   unfolding reply next replyLine
   give-replied off G (p, q) = record {
     place = p ∙ ap (λ (o : Outcome). n + length (freeLine o)) (G .answer h z);
@@ -70,11 +71,11 @@ module _ (s : Plain) (b u v : List ℕ) (n m : ℕ) (r : Served) (d : List ℕ) 
     long = G .long;
   }
 
-module _ (s : Plain) (b u v : List ℕ) (n : ℕ) (t : Turn) where
-  pub none-replied : isSound s b ≡ true → (t .after ≡ s) × Prints u v n (t .at) (refusalLine Unreadable) → Replied s b none u v n t b
-  unfolding reply next
-  none-replied z (e, p) = record { place = p .0; text = p .1; state = rw e; sound = rw e z; long = refl }
+pub none-replied : (h : Host) (b u v : List ℕ) (n : ℕ) (t : Turn) → isSound (shown h) b ≡ true → (t .after ≡ h) × Prints u v n (t .at) (refusalLine Unreadable) → Replied (shown h) b none u v n t b
+unfolding reply next
+none-replied h b u v n t z (e, p) = record { place = p .0; text = p .1; state = rw e; sound = rw e z; long = refl }
 
+module _ (s : Plain) (b u v : List ℕ) (n : ℕ) (t : Turn) where
   pub replied-as : (d : List ℕ) (x y : Option Call) → x ≡ y → Replied s b x u v n t d → Replied s b y u v n t d
   replied-as d x y e p = rw (← e) p
 
@@ -94,7 +95,7 @@ module _ (m₀ : State) (u₀ : List ℕ) (n₀ : ℕ) (ls₀ : List (List ℕ))
   left-as m u n ls ls′ e p = rw (← e) p
 
   pub left-more : (s : Plain) (b u v : List ℕ) (n : ℕ) (t : Turn) (d l : List ℕ) (ls : List (List ℕ)) → Replied s b (request l) u v n t d →
-      Left (readPlain s b) u n (l ∷ ls) m₀ u₀ n₀ ls₀ → Left (readPlain (t .after) d) v (t .at) ls m₀ u₀ n₀ ls₀
+      Left (readPlain s b) u n (l ∷ ls) m₀ u₀ n₀ ls₀ → Left (readPlain (shown (t .after)) d) v (t .at) ls m₀ u₀ n₀ ls₀
   left-more s b u v n t d l ls R p =
       let this : List ℕ = reply (readPlain s b) (request l) in
       let rest : List ℕ = joined (replies (next (readPlain s b) (request l)) ls) in
@@ -106,8 +107,8 @@ module _ (m₀ : State) (u₀ : List ℕ) (n₀ : ℕ) (ls₀ : List (List ℕ))
       })
 
 -- the last line was served
-pub left-none : (s : Plain) (b : List ℕ) (ls : List (List ℕ)) (u v : List ℕ) (n : ℕ) (t : Turn) (d : List ℕ) → isSound (t .after) d ≡ true →
-    Left (readPlain (t .after) d) v (t .at) [] (readPlain s b) u n ls → Answered s b ls u v n t d
+pub left-none : (s : Plain) (b : List ℕ) (ls : List (List ℕ)) (u v : List ℕ) (n : ℕ) (t : Turn) (d : List ℕ) → isSound (shown (t .after)) d ≡ true →
+    Left (readPlain (shown (t .after)) d) v (t .at) [] (readPlain s b) u n ls → Answered s b ls u v n t d
 left-none s b ls u v n t d z p = record { place = omega (arith, p .place); text = sym (written-none v (t .at)) ∙ p .text; state = p .state; sound = z }
 
 pub replies-few : (m : State) (input : List ℕ) → length (joined (replies m (lines input))) ≤ 5 * (length input + 1) + 32
@@ -132,15 +133,15 @@ plain-summary s b h = ap (λ (n : ℕ). summaryLine n (length (readRuns (s .runs
 -- ---- first line, lines, last line
 
 pub all-do : (s : Plain) (b u v x y input : List ℕ) (a r : ℕ) (t : Turn) (d : List ℕ) → Formats s → Prints u v 0 a (line poolWord pages) → Answered s b (lines input) v x a t d →
-    Prints x y (t .at) r (summaryLine (t .after .free) (length (readRuns (t .after .runs)))) → (r ≡ length (transcript input)) × (y ≡ written u 0 (transcript input))
+    Prints x y (t .at) r (summaryLine (t .after .kept .free) (length (readRuns (t .after .runs)))) → (r ≡ length (transcript input)) × (y ≡ written u 0 (transcript input))
 unfolding transcript exchange
 all-do s b u v x y input a r t d F (p, q) A (p′, q′) =
     let m : State = fresh pages in
     let first : List ℕ = line poolWord pages in
     let text : List ℕ = joined (replies m (lines input)) in
     let last : List ℕ = summary (final m (lines input)) in
-    let ends : summaryLine (t .after .free) (length (readRuns (t .after .runs))) ≡ last =
-    plain-summary (t .after) d (A .sound) ∙ ap summary (A .state ∙ ap (λ (m : State). final m (lines input)) (F .state b)) in
+    let ends : summaryLine (t .after .kept .free) (length (readRuns (t .after .runs))) ≡ last =
+    plain-summary (shown (t .after)) d (A .sound) ∙ ap summary (A .state ∙ ap (λ (m : State). final m (lines input)) (F .state b)) in
     let n₁ : t .at ≡ a + length text = A .place ∙ ap (λ (m : State). a + length (joined (replies m (lines input)))) (F .state b) in
     let w₁ : x ≡ written v a text = A .text ∙ ap (λ (m : State). written v a (joined (replies m (lines input)))) (F .state b) in
     let n₂ : r ≡ t .at + length last = p′ ∙ ap (λ (l : List ℕ). t .at + length l) ends in

@@ -1,12 +1,13 @@
-// A script served by the plain engine. What it prints is what the packed pool prints (SPEC 8): both are told by `printout`.
+// A script served by the plain engine, for a host that has the table of free runs and that of the chunks, and lends them at each call. What it prints is what the packed pool prints (SPEC 8): both are told by `printout`.
 use answers::Offset;
 use answers::Refusal;
 use branchless::one_if;
 use plain::Counts;
 use plain::Extent;
+use plain::Kept;
 use plain::PageEntry;
-use plain::Plain;
-use plain::Served;
+use plain_host::Host;
+use plain_host::Reply;
 use printing::put_line;
 use printing::put_phrase;
 use script_lines::Request;
@@ -24,11 +25,12 @@ ghost use Rattle.script_summary.specs.Summary.{summaryLine};
 ghost use Rattle.script.specs.Script.{transcript, printout};
 ghost use Rattle.plain.specs.Table.{readRuns};
 ghost use Rattle.plain_rules.specs.Rules.{isSound};
+ghost use Rattle.plain_host.specs.Host.{shown};
 ghost use Rattle.plain_script.specs.Serving.{Replied, Answered};
 
 // After a line: the state, and the place after what was printed.
 pub struct Turn {
-    pub after: Plain,
+    pub after: Host,
     pub at: usize,
 }
 
@@ -54,11 +56,11 @@ fn put_given(out: &mut [u8], n: usize, number: u8, value: u32) -> usize
     put_line(out, n, b"no ", number as u32)
 }
 
-fn serve_take(s: Plain, chunks: &mut [u8], size: u32, out: &mut [u8], n: usize) -> Turn
-    requires { ⌜ (6144 ≤ length (now chunks)) × (isSound s (now chunks) ≡ true) × (n ≤ 1000000) ⌝ }
-    ensures { λ t. ⌜ Replied s (now (chunks .entry)) (some (Alloc size)) (now (out .entry)) (now (out .exit)) n t (now (chunks .exit)) ⌝ }
+fn serve_take(s: Host, chunks: &mut [u8], size: u32, out: &mut [u8], n: usize) -> Turn
+    requires { ⌜ (6144 ≤ length (now chunks)) × (isSound (shown s) (now chunks) ≡ true) × (n ≤ 1000000) ⌝ }
+    ensures { λ t. ⌜ Replied (shown s) (now (chunks .entry)) (some (Alloc size)) (now (out .entry)) (now (out .exit)) n t (now (chunks .exit)) ⌝ }
 {
-    let r = plain_engine::alloc(s, chunks, size);
+    let r = plain_host::alloc(s, chunks, size);
     let at = put_taken(out, n, r.number, r.value);
     let after = r.after;
     Turn {
@@ -67,11 +69,11 @@ fn serve_take(s: Plain, chunks: &mut [u8], size: u32, out: &mut [u8], n: usize) 
     }
 }
 
-fn serve_give(s: Plain, chunks: &mut [u8], off: Offset, out: &mut [u8], n: usize) -> Turn
-    requires { ⌜ (6144 ≤ length (now chunks)) × (isSound s (now chunks) ≡ true) × (n ≤ 1000000) ⌝ }
-    ensures { λ t. ⌜ Replied s (now (chunks .entry)) (some (Free (off .0))) (now (out .entry)) (now (out .exit)) n t (now (chunks .exit)) ⌝ }
+fn serve_give(s: Host, chunks: &mut [u8], off: Offset, out: &mut [u8], n: usize) -> Turn
+    requires { ⌜ (6144 ≤ length (now chunks)) × (isSound (shown s) (now chunks) ≡ true) × (n ≤ 1000000) ⌝ }
+    ensures { λ t. ⌜ Replied (shown s) (now (chunks .entry)) (some (Free (off .0))) (now (out .entry)) (now (out .exit)) n t (now (chunks .exit)) ⌝ }
 {
-    let r = plain_engine::free(s, chunks, off);
+    let r = plain_host::free(s, chunks, off);
     let at = put_given(out, n, r.number, r.value);
     let after = r.after;
     Turn {
@@ -80,7 +82,7 @@ fn serve_give(s: Plain, chunks: &mut [u8], off: Offset, out: &mut [u8], n: usize
     }
 }
 
-fn serve_unreadable(s: Plain, out: &mut [u8], n: usize) -> Turn
+fn serve_unreadable(s: Host, out: &mut [u8], n: usize) -> Turn
     requires { ⌜ n ≤ 1000000 ⌝ }
     ensures { λ t. ⌜ (t .after ≡ s) × Prints (now (out .entry)) (now (out .exit)) n (t .at) (refusalLine Unreadable) ⌝ }
 {
@@ -88,9 +90,9 @@ fn serve_unreadable(s: Plain, out: &mut [u8], n: usize) -> Turn
     Turn { after: s, at: at }
 }
 
-fn serve_request(s: Plain, chunks: &mut [u8], r: Request, out: &mut [u8], n: usize) -> Turn
-    requires { ⌜ (6144 ≤ length (now chunks)) × (isSound s (now chunks) ≡ true) × (n ≤ 1000000) ⌝ }
-    ensures { λ t. ⌜ Replied s (now (chunks .entry)) (callOf r) (now (out .entry)) (now (out .exit)) n t (now (chunks .exit)) ⌝ }
+fn serve_request(s: Host, chunks: &mut [u8], r: Request, out: &mut [u8], n: usize) -> Turn
+    requires { ⌜ (6144 ≤ length (now chunks)) × (isSound (shown s) (now chunks) ≡ true) × (n ≤ 1000000) ⌝ }
+    ensures { λ t. ⌜ Replied (shown s) (now (chunks .entry)) (callOf r) (now (out .entry)) (now (out .exit)) n t (now (chunks .exit)) ⌝ }
 {
     match r {
         Request::Take(size) => serve_take(s, chunks, size, out, n),
@@ -99,18 +101,18 @@ fn serve_request(s: Plain, chunks: &mut [u8], r: Request, out: &mut [u8], n: usi
     }
 }
 
-fn serve_line(s: Plain, chunks: &mut [u8], line: &[u8], out: &mut [u8], n: usize) -> Turn
-    requires { ⌜ (6144 ≤ length (now chunks)) × (isSound s (now chunks) ≡ true) × (n ≤ 1000000) ⌝ }
-    ensures { λ t. ⌜ Replied s (now (chunks .entry)) (request (now (line .entry))) (now (out .entry)) (now (out .exit)) n t (now (chunks .exit)) ⌝ }
+fn serve_line(s: Host, chunks: &mut [u8], line: &[u8], out: &mut [u8], n: usize) -> Turn
+    requires { ⌜ (6144 ≤ length (now chunks)) × (isSound (shown s) (now chunks) ≡ true) × (n ≤ 1000000) ⌝ }
+    ensures { λ t. ⌜ Replied (shown s) (now (chunks .entry)) (request (now (line .entry))) (now (out .entry)) (now (out .exit)) n t (now (chunks .exit)) ⌝ }
 {
     serve_request(s, chunks, script_lines::read_line(line), out, n)
 }
 
 // ---- all lines
 
-fn serve_lines(s: Plain, chunks: &mut [u8], input: &[u8], out: &mut [u8], n: usize) -> Turn
-    requires { ⌜ (6144 ≤ length (now chunks)) × (isSound s (now chunks) ≡ true) × (n + 5 * (length (now input) + 1) + 32 ≤ 1000000) ⌝ }
-    ensures { λ t. ⌜ Answered s (now (chunks .entry)) (lines (now (input .entry))) (now (out .entry)) (now (out .exit)) n t (now (chunks .exit)) ⌝ }
+fn serve_lines(s: Host, chunks: &mut [u8], input: &[u8], out: &mut [u8], n: usize) -> Turn
+    requires { ⌜ (6144 ≤ length (now chunks)) × (isSound (shown s) (now chunks) ≡ true) × (n + 5 * (length (now input) + 1) + 32 ≤ 1000000) ⌝ }
+    ensures { λ t. ⌜ Answered (shown s) (now (chunks .entry)) (lines (now (input .entry))) (now (out .entry)) (now (out .exit)) n t (now (chunks .exit)) ⌝ }
 {
     let mut state = s;
     let mut next = n;
@@ -145,13 +147,14 @@ fn count_runs(runs: [Extent; 12]) -> u32
     k as u32
 }
 
-fn put_summary(s: Plain, out: &mut [u8], n: usize) -> usize
+fn put_summary(s: Host, out: &mut [u8], n: usize) -> usize
     requires { ⌜ n ≤ 1000000 ⌝ }
-    ensures { λ r. ⌜ Prints (now (out .entry)) (now (out .exit)) n r (summaryLine (s .free) (length (readRuns (s .runs)))) ⌝ }
+    ensures { λ r. ⌜ Prints (now (out .entry)) (now (out .exit)) n r (summaryLine (s .kept .free) (length (readRuns (s .runs)))) ⌝ }
 {
     let table = s.runs;
     let runs = count_runs(table);
-    let after = put_phrase(out, n, b"free ", s.free);
+    let kept = s.kept;
+    let after = put_phrase(out, n, b"free ", kept.free);
     put_line(out, after, b" runs ", runs)
 }
 
@@ -160,7 +163,7 @@ fn serve_fresh(chunks: &mut [u8], input: &[u8], out: &mut [u8]) -> usize
     ensures answer { λ r. ⌜ r ≡ length (transcript (now (input .entry))) ⌝ }
     ensures slice { λ _. ⌜ now (out .exit) ≡ written (now (out .entry)) 0 (transcript (now (input .entry))) ⌝ }
 {
-    let s = plain_engine::format();
+    let s = plain_host::format();
     let first = put_line(out, 0, b"pool ", 12);
     let t = serve_lines(s, chunks, input, out, first);
     let after = t.after;

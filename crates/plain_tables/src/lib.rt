@@ -1,15 +1,15 @@
-// Chunks handed out and back: what happens to the tables of the plain state, by value.
+// Chunks handed out and back: what happens to the tables that are kept by value.
 use plain::Counts;
-use plain::Extent;
+use plain::Done;
+use plain::Kept;
 use plain::PageEntry;
-use plain::Plain;
 ghost use mathlib.Core.Path.{_≡_};
 ghost use Prim.Native.Nat.{_<_};
-ghost use lib.ListN.{getD, set};
-ghost use Rattle.plain.specs.Table.{vacant};
+ghost use lib.ListN.{set};
 ghost use Rattle.base.specs.Tests.{pick};
 ghost use Rattle.model.specs.Calls.{raise};
-ghost use Rattle.plain.specs.Chunks.{askedCounts, failedCounts, countAsk, countFailure, chunkRefused, pageCut, chunkTaken, chunkBack, pageDropped, chunkFreed, listedFirst, unlisted};
+ghost use Rattle.plain.specs.Chunks.{askedCounts, failedCounts, countAsk, countFailure, listedFirst, unlisted};
+ghost use Rattle.plain.specs.Mirror.{keptRefused, keptCut, keptHanded, keptBack, keptUnlisted, keptDropped, chunkBackDone};
 
 // ---- asks and failures
 
@@ -66,17 +66,15 @@ fn count_failure(mut counts: [Counts; 9], c: usize) -> [Counts; 9]
 // ---- chunks handed out
 
 // A chunk of class c refused.
-pub fn refuse_chunk(s: Plain, c: usize) -> Plain
+pub fn refuse_chunk(s: Kept, c: usize) -> Kept
     requires { ⌜ c < 9 ⌝ }
-    ensures { λ r. ⌜ r ≡ chunkRefused s c ⌝ }
+    ensures { λ r. ⌜ r ≡ keptRefused s c ⌝ }
 {
-    let runs = s.runs;
     let pages = s.pages;
     let ready = s.ready;
     let before = s.counts;
     let counts = count_failure(before, c);
-    Plain {
-        runs: runs,
+    Kept {
         pages: pages,
         ready: ready,
         counts: counts,
@@ -103,18 +101,16 @@ fn back_or_not(table: [u8; 12], p: u8, clear: bool) -> [u8; 12]
 }
 
 // A chunk of page p, of class c, is handed out; `clear` tells whether another is free.
-pub fn take_chunk(s: Plain, c: usize, p: u8, clear: bool) -> Plain
+pub fn take_chunk(s: Kept, c: usize, p: u8, clear: bool) -> Kept
     requires { ⌜ c < 9 ⌝ }
-    ensures { λ r. ⌜ r ≡ chunkTaken s c p clear ⌝ }
+    ensures { λ r. ⌜ r ≡ keptHanded s c p clear ⌝ }
 {
-    let runs = s.runs;
     let pages = s.pages;
     let listed = s.ready;
     let ready = kept_or_not(listed, p, clear);
     let before = s.counts;
     let counts = count_ask(before, c);
-    Plain {
-        runs: runs,
+    Kept {
         pages: pages,
         ready: ready,
         counts: counts,
@@ -125,16 +121,29 @@ pub fn take_chunk(s: Plain, c: usize, p: u8, clear: bool) -> Plain
 // ---- chunks that come back
 
 // The page stays a class page; `clear` tells whether a chunk was free before.
-fn chunk_back(s: Plain, p: u8, clear: bool) -> Plain
-    ensures { λ r. ⌜ r ≡ chunkBack s p clear ⌝ }
+fn chunk_back(s: Kept, p: u8, clear: bool) -> Kept
+    ensures { λ r. ⌜ r ≡ keptBack s p clear ⌝ }
 {
-    let runs = s.runs;
     let pages = s.pages;
     let listed = s.ready;
     let ready = back_or_not(listed, p, clear);
     let counts = s.counts;
-    Plain {
-        runs: runs,
+    Kept {
+        pages: pages,
+        ready: ready,
+        counts: counts,
+        free: s.free,
+    }
+}
+
+fn unlist_page(s: Kept, p: u8) -> Kept
+    ensures { λ r. ⌜ r ≡ keptUnlisted s p ⌝ }
+{
+    let pages = s.pages;
+    let listed = s.ready;
+    let ready = plain_chunks::unlist(listed, p);
+    let counts = s.counts;
+    Kept {
         pages: pages,
         ready: ready,
         counts: counts,
@@ -143,32 +152,23 @@ fn chunk_back(s: Plain, p: u8, clear: bool) -> Plain
 }
 
 // The page's last chunk came back: it leaves the list and becomes free.
-fn drop_page(s: Plain, p: u8) -> Plain
-    ensures { λ r. ⌜ r ≡ pageDropped s p ⌝ }
+fn drop_page(s: Kept, p: u8) -> Kept
+    ensures { λ r. ⌜ r ≡ keptDropped s p ⌝ }
 {
-    let runs = s.runs;
-    let pages = s.pages;
-    let listed = s.ready;
-    let ready = plain_chunks::unlist(listed, p);
-    let counts = s.counts;
-    let off = Plain {
-        runs: runs,
-        pages: pages,
-        ready: ready,
-        counts: counts,
-        free: s.free,
-    };
+    let off = unlist_page(s, p);
     plain_pages::free_pages(off, p as u32, 1)
 }
 
-// A chunk of page p comes back; `clear` tells whether a chunk was free before, `left` whether callers hold others of the page.
-pub fn free_chunk(s: Plain, p: u8, clear: bool, left: bool) -> Plain
-    ensures { λ r. ⌜ r ≡ chunkFreed s p clear left ⌝ }
+// A chunk of page p comes back, of so many bytes; `clear` tells whether a chunk was free before, `left` whether callers hold others of the page.
+pub fn free_chunk(s: Kept, p: u8, bytes: u32, clear: bool, left: bool) -> Done
+    ensures { λ r. ⌜ r ≡ chunkBackDone s p bytes clear left ⌝ }
 {
     if left {
-        return chunk_back(s, p, clear);
+        let after = chunk_back(s, p, clear);
+        return plain_pages::grant(after, bytes);
     }
-    drop_page(s, p)
+    let after = drop_page(s, p);
+    plain_pages::grant_with(after, bytes, p as u32, 1)
 }
 
 // ---- a page cut into chunks
@@ -189,21 +189,18 @@ fn put_class(mut pages: [PageEntry; 12], p: u8, c: u8) -> [PageEntry; 12]
     pages
 }
 
-// The first page of the run at place i, page p, becomes a page of class c and the head of the list.
-pub fn cut_page(s: Plain, c: u8, i: usize, p: u8) -> Plain
-    requires { ⌜ (c < 9) × (i < 12) × (p ≡ getD (s .runs) i vacant .first) ⌝ }
-    ensures { λ r. ⌜ r ≡ pageCut s c i ⌝ }
+// Page p becomes a page of class c and the head of the list.
+pub fn cut_page(s: Kept, c: u8, p: u8) -> Kept
+    requires { ⌜ c < 9 ⌝ }
+    ensures { λ r. ⌜ r ≡ keptCut s c p ⌝ }
 {
-    let table = s.runs;
-    let runs = plain_runs::carve_at(table, i, 1);
     let before = s.pages;
     let pages = put_class(before, p, c);
     let listed = s.ready;
     let ready = plain_chunks::list_first(listed, p);
     let asks = s.counts;
     let counts = count_ask(asks, c as usize);
-    Plain {
-        runs: runs,
+    Kept {
         pages: pages,
         ready: ready,
         counts: counts,

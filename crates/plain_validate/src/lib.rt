@@ -1,17 +1,16 @@
-// Rules 2 to 6 on a plain state. Read is_sound, the last, first.
+// Rules 2 to 6 on what is kept by value; those of the table of free runs are tried where it stands. Read is_sound, the last, first.
 use branchless::all3;
-use branchless::all4;
 use branchless::both;
 use plain::Counts;
-use plain::Extent;
+use plain::Kept;
 use plain::PageEntry;
-use plain::Plain;
 ghost use mathlib.Core.Path.{_≡_};
 ghost use Prim.Native.Nat.{_<_};
 ghost use lib.ListN.{getD};
 ghost use Rattle.base.specs.Tests.{allBelow};
 ghost use Rattle.plain.specs.Plain.{noCounts};
-ghost use Rattle.plain_rules.specs.Rules.{countsOk, pageOk, isSound};
+ghost use Rattle.plain_rules.specs.Rules.{countsOk};
+ghost use Rattle.plain_rules.specs.Mirror.{keptPageOk, keptSound};
 
 // ---- rule 6: counts
 
@@ -38,29 +37,22 @@ fn classes_ok(pages: [PageEntry; 12], bytes: &[u8], counts: [Counts; 9]) -> bool
 
 // ---- all of them
 
-fn page_ok(
-    pages: [PageEntry; 12],
-    runs: [Extent; 12],
-    ready: [u8; 12],
-    bytes: &[u8],
-    p: usize,
-) -> bool
+fn page_ok(pages: [PageEntry; 12], ready: [u8; 12], bytes: &[u8], p: usize) -> bool
     requires { ⌜ p < 12 ⌝ }
-    ensures { λ r. ⌜ r ≡ pageOk pages runs ready (now (bytes .entry)) p ⌝ }
+    ensures { λ r. ⌜ r ≡ keptPageOk pages ready (now (bytes .entry)) p ⌝ }
 {
     let e = plain_counts::entry(pages, p);
     let kind = plain_kinds::kind_ok(pages, bytes, p, e);
-    let run = plain_lists::runs_ok(pages, runs, p);
     let listed = plain_lists::list_ok(bytes, ready, p, e);
-    all3(kind, run, listed)
+    both(kind, listed)
 }
 
-fn pages_ok(pages: [PageEntry; 12], runs: [Extent; 12], ready: [u8; 12], bytes: &[u8]) -> bool
-    ensures { λ r. ⌜ r ≡ allBelow (pageOk pages runs ready (now (bytes .entry))) 12 ⌝ }
+fn pages_ok(pages: [PageEntry; 12], ready: [u8; 12], bytes: &[u8]) -> bool
+    ensures { λ r. ⌜ r ≡ allBelow (keptPageOk pages ready (now (bytes .entry))) 12 ⌝ }
 {
     let mut p: usize = 0;
     while p < 12 {
-        if !page_ok(pages, runs, ready, bytes, p) {
+        if !page_ok(pages, ready, bytes, p) {
             return false;
         }
         p += 1;
@@ -68,16 +60,14 @@ fn pages_ok(pages: [PageEntry; 12], runs: [Extent; 12], ready: [u8; 12], bytes: 
     true
 }
 
-pub fn is_sound(s: Plain, bytes: &[u8]) -> bool
-    ensures { λ r. ⌜ r ≡ isSound s (now (bytes .entry)) ⌝ }
+pub fn is_sound(s: Kept, bytes: &[u8]) -> bool
+    ensures { λ r. ⌜ r ≡ keptSound s (now (bytes .entry)) ⌝ }
 {
-    let runs = s.runs;
     let table = s.pages;
     let ready = s.ready;
     let tallies = s.counts;
-    let pages = pages_ok(table, runs, ready, bytes);
-    let extents = plain_lists::extents_ok(table, runs);
+    let pages = pages_ok(table, ready, bytes);
     let free = plain_counts::count_free(table);
     let counts = classes_ok(table, bytes, tallies);
-    all4(pages, extents, s.free == free, counts)
+    all3(pages, s.free == free, counts)
 }

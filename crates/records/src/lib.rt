@@ -1,7 +1,7 @@
 // The records of a pool by value: header, class records and page records, and where they stand.
 ghost use mathlib.Core.Path.{_≡_};
 ghost use Prim.Native.Nat.{_+_, _*_};
-ghost use Rattle.records.specs.Mirror.{freeTo, firstRunTo, firstTo, usedTo, totalTo, reqsTo, failsTo};
+ghost use Rattle.records.specs.Mirror.{freeTo, firstRunTo, firstTo, usedTo, totalTo};
 ghost use Rattle.records.specs.Class.{emptyClass};
 
 // Where no page is meant: after a list's last page, before its first, and in a link without use.
@@ -35,9 +35,7 @@ pub const TOO_LONG: usize = PAGE_AND_RECORD * (MOST_PAGES + 1);
 // Larger blocks are whole pages.
 pub const LARGEST_CHUNK: u32 = 2048;
 
-// Counts of chunks have 24 bits; tallies stop at the largest number of 32 bits (`most`).
-pub const COUNTS: u32 = 16777216;
-
+// Tallies stop at the largest number of 32 bits (`most`).
 pub const MOST_ASKS: u32 = 4294967295;
 
 // A page by its number, or NO_PAGE.
@@ -152,29 +150,5 @@ pub fn total_to(r: ClassRecord, n: u32) -> ClassRecord
         total: n,
         reqs: r.reqs,
         fails: r.fails,
-    }
-}
-
-pub fn reqs_to(r: ClassRecord, n: u32) -> ClassRecord
-    ensures { λ x. ⌜ x ≡ reqsTo r n ⌝ }
-{
-    ClassRecord {
-        first: PageNumber(r.first.0),
-        used: r.used,
-        total: r.total,
-        reqs: n,
-        fails: r.fails,
-    }
-}
-
-pub fn fails_to(r: ClassRecord, n: u32) -> ClassRecord
-    ensures { λ x. ⌜ x ≡ failsTo r n ⌝ }
-{
-    ClassRecord {
-        first: PageNumber(r.first.0),
-        used: r.used,
-        total: r.total,
-        reqs: r.reqs,
-        fails: n,
     }
 }

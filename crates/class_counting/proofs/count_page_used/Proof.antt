@@ -1,42 +1,49 @@
-use Rattle.classes.specs.Mirror.{countPageUsed}
+use Rattle.class_counting.proofs.Words.{page-counted}
 use borrow.Author.Needs.{needs}
 use Rattle.class_counting.proofs.count_page_used.Statement.{statement}
 use Rattle.class_counting.proofs.count_page_used.Tie as tie
 
-get-class-requires : tie.Need-get-class-requires
-get-class-requires c κs = search needs
+place-requires : tie.Need-place-requires
+place-requires c κs = search needs
 
-total-count-requires : tie.Need-total-count-requires
-total-count-requires c κs = search needs
+place-requires-2 : tie.Need-place-requires-2
+place-requires-2 c κs = search needs
 
-plus-requires : tie.Need-plus-requires
-plus-requires c κs = search needs
+get-word-requires : tie.Need-get-word-requires
+get-word-requires c κs = search needs
 
-chunk-used-requires : tie.Need-chunk-used-requires
-chunk-used-requires c κs = search needs
+get-word-requires-2 : tie.Need-get-word-requires-2
+get-word-requires-2 c κs = search needs
 
-total-to-requires : tie.Need-total-to-requires
-total-to-requires c κs = search needs
+page-used-requires : tie.Need-page-used-requires
+page-used-requires c κs = search needs
 
-put-class-requires : tie.Need-put-class-requires
-put-class-requires c κs = search needs
+raised-by-loan-requires : tie.Need-raised-by-loan-requires
+raised-by-loan-requires c κs = search needs
+
+put-word-requires : tie.Need-put-word-requires
+put-word-requires c κs = search needs
+
+put-word-requires-2 : tie.Need-put-word-requires-2
+put-word-requires-2 c κs = search needs
 
 same-length : tie.Need-same-length
 same-length c = search needs
 
 returns : tie.Need-returns
-unfolding countPageUsed
-returns c = rw (c .before .before .before .total-to .ensures, c .before .before .before .before .chunk-used .ensures, c .before .before .before .before .before .before .plus .ensures, c .before .before .before .before .before .before .before .total-count .ensures, c .before .before .before .before .before .before .before .before .get-class .ensures) at (c .before .before .put-class .ensures)
+returns c = search (needs, page-counted)
 
 pub count-page-used-spec : {M : Type 1} → statement M
 count-page-used-spec =
     tie.close
     (tie.spec
-    get-class-requires
-    total-count-requires
-    plus-requires
-    chunk-used-requires
-    total-to-requires
-    put-class-requires
+    place-requires
+    place-requires-2
+    get-word-requires
+    get-word-requires-2
+    page-used-requires
+    raised-by-loan-requires
+    put-word-requires
+    put-word-requires-2
     same-length
     returns)

@@ -6,28 +6,40 @@ use Rattle.class_counting.proofs.count_used.Tie as tie
 place-requires : tie.Need-place-requires
 place-requires c κs = search needs
 
-count-one-used-requires : tie.Need-count-one-used-requires
-count-one-used-requires c κs = search needs
-
 place-requires-2 : tie.Need-place-requires-2
 place-requires-2 c κs = search needs
 
-count-one-ask-requires : tie.Need-count-one-ask-requires
-count-one-ask-requires c κs = search needs
+get-word-in-requires : tie.Need-get-word-in-requires
+get-word-in-requires c κs = search needs
+
+get-word-in-requires-2 : tie.Need-get-word-in-requires-2
+get-word-in-requires-2 c κs = search needs
+
+raised-by-loan-requires : tie.Need-raised-by-loan-requires
+raised-by-loan-requires c κs = search needs
+
+put-word-in-requires : tie.Need-put-word-in-requires
+put-word-in-requires c κs = search needs
+
+put-word-in-requires-2 : tie.Need-put-word-in-requires-2
+put-word-in-requires-2 c κs = search needs
 
 same-length : tie.Need-same-length
 same-length c = search needs
 
 returns : tie.Need-returns
-returns c = let first = c .before .before .before .before .before .before .before in let b = first .before .before .before .before in used-counted (b .args .w) (b .args .pool .now) (b .args .c) _ _ (first .before .place .ensures) _ _ (c .before .before .before .place2 .ensures) (first .count-one-used .ensures) (c .before .before .count-one-ask .ensures)
+returns c = search (needs, used-counted)
 
 pub count-used-spec : {M : Type 1} → statement M
 count-used-spec =
     tie.close
     (tie.spec
     place-requires
-    count-one-used-requires
     place-requires-2
-    count-one-ask-requires
+    get-word-in-requires
+    get-word-in-requires-2
+    raised-by-loan-requires
+    put-word-in-requires
+    put-word-in-requires-2
     same-length
     returns)

@@ -1,5 +1,5 @@
-use Rattle.plain.specs.Engine.{plainAlloc, plainAllocBytes}
 use Rattle.base.proofs.Tests.{picks}
+use Rattle.plain.specs.Mirror.{keptAlloc, keptAllocBytes}
 use borrow.Author.Needs.{needs}
 use Rattle.plain_alloc.proofs.alloc_sound.Statement.{statement}
 use Rattle.plain_alloc.proofs.alloc_sound.Tie as tie
@@ -8,7 +8,7 @@ refuse-requires : tie.Need-refuse-requires
 refuse-requires c κs = search needs
 
 returns : tie.Need-returns
-unfolding plainAlloc plainAllocBytes
+unfolding keptAlloc keptAllocBytes
 returns c = (search picks, search picks)
 
 alloc-small-requires : tie.Need-alloc-small-requires
@@ -18,14 +18,14 @@ same-length : tie.Need-same-length
 same-length c = search needs
 
 returns-2 : tie.Need-returns-2
-unfolding plainAlloc plainAllocBytes
+unfolding keptAlloc keptAllocBytes
 returns-2 c = (search picks, search picks)
 
 alloc-large-requires : tie.Need-alloc-large-requires
 alloc-large-requires c κs = search needs
 
 returns-3 : tie.Need-returns-3
-unfolding plainAlloc plainAllocBytes
+unfolding keptAlloc keptAllocBytes
 returns-3 c = (search picks, search picks)
 
 pub alloc-sound-spec : {M : Type 1} → statement M

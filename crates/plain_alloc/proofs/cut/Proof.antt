@@ -1,3 +1,4 @@
+use Rattle.plain.specs.Mirror.{cutFrom}
 use borrow.Author.Needs.{needs}
 use Rattle.plain_alloc.proofs.cut.Statement.{statement}
 use Rattle.plain_alloc.proofs.cut.Tie as tie
@@ -17,13 +18,14 @@ chunk-offset-requires c κs = search needs
 cut-page-requires : tie.Need-cut-page-requires
 cut-page-requires c κs = search needs
 
-grant-requires : tie.Need-grant-requires
-grant-requires c κs = search needs
+grant-with-requires : tie.Need-grant-with-requires
+grant-with-requires c κs = search needs
 
 same-length : tie.Need-same-length
 same-length c = search needs
 
 returns : tie.Need-returns
+unfolding cutFrom
 returns c = (cc, cc)
 
 pub cut-spec : {M : Type 1} → statement M
@@ -35,6 +37,6 @@ cut-spec =
     new-page-requires
     chunk-offset-requires
     cut-page-requires
-    grant-requires
+    grant-with-requires
     same-length
     returns)

@@ -1,4 +1,4 @@
-use Rattle.plain.specs.Engine.{fromPage}
+use Rattle.plain.specs.Mirror.{fromListed}
 use Rattle.plain_counts.proofs.Counting.{count-most}
 use borrow.Author.Needs.{needs}
 use Rattle.plain_alloc.proofs.take_at.Statement.{statement}
@@ -23,7 +23,7 @@ same-length : tie.Need-same-length
 same-length c = search needs
 
 returns : tie.Need-returns
-unfolding fromPage
+unfolding fromListed
 returns c = (cc, cc)
 
 pub take-at-spec : {M : Type 1} → statement M

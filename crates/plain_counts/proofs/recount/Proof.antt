@@ -1,4 +1,4 @@
-use Rattle.plain_rules.specs.Counts.{recounted}
+use Rattle.plain_rules.specs.Mirror.{keptRecounted}
 use borrow.Author.Needs.{needs}
 use Rattle.plain_counts.proofs.recount.Statement.{statement}
 use Rattle.plain_counts.proofs.recount.Tie as tie
@@ -10,7 +10,7 @@ count-free-requires : tie.Need-count-free-requires
 count-free-requires c κs = search needs
 
 returns : tie.Need-returns
-unfolding recounted
+unfolding keptRecounted
 returns c = cc
 
 pub recount-spec : {M : Type 1} → statement M

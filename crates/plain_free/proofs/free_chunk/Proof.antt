@@ -1,5 +1,5 @@
-use Rattle.plain_free.specs.Mirror.{chunkAt, chunkAtBytes}
 use Rattle.base.proofs.Tests.{picks}
+use Rattle.plain.specs.Mirror.{chunkAtDone, chunkAtBytes}
 use borrow.Author.Needs.{needs}
 use Rattle.plain_free.proofs.free_chunk.Statement.{statement}
 use Rattle.plain_free.proofs.free_chunk.Tie as tie
@@ -14,7 +14,7 @@ same-length : tie.Need-same-length
 same-length c = search needs
 
 returns : tie.Need-returns
-unfolding chunkAt chunkAtBytes
+unfolding chunkAtDone chunkAtBytes
 returns c = (search picks, search picks)
 
 refuse-requires : tie.Need-refuse-requires
@@ -24,7 +24,7 @@ same-length-2 : tie.Need-same-length-2
 same-length-2 c = search needs
 
 returns-2 : tie.Need-returns-2
-unfolding chunkAt chunkAtBytes
+unfolding chunkAtDone chunkAtBytes
 returns-2 c = (search picks, search picks)
 
 pub free-chunk-spec : {M : Type 1} → statement M

@@ -1,6 +1,5 @@
-use Rattle.plain_free.specs.Mirror.{kindFreed, kindFreedBytes}
-use Rattle.plain.specs.Engine.{freeIn, freeInBytes, freeKind, freeKindBytes}
 use Rattle.base.proofs.Tests.{picks}
+use Rattle.plain.specs.Mirror.{inDone, inDoneBytes}
 use borrow.Author.Needs.{needs}
 use Rattle.plain_free.proofs.free_in.Statement.{statement}
 use Rattle.plain_free.proofs.free_in.Tie as tie
@@ -12,16 +11,15 @@ same-length : tie.Need-same-length
 same-length c = search needs
 
 returns : tie.Need-returns
-unfolding freeIn freeInBytes freeKind freeKindBytes kindFreed kindFreedBytes
+unfolding inDone inDoneBytes
 returns c = (search picks, search picks)
 
 refuse-requires : tie.Need-refuse-requires
 refuse-requires c κs = search needs
 
 returns-2 : tie.Need-returns-2
-unfolding freeIn freeInBytes freeKind freeKindBytes kindFreed kindFreedBytes
+unfolding inDone inDoneBytes
 returns-2 c = (search picks, search picks)
 
 pub free-in-spec : {M : Type 1} → statement M
-free-in-spec =
-    tie.close (tie.spec free-page-requires same-length returns refuse-requires returns-2)
+free-in-spec = tie.close (tie.spec free-page-requires same-length returns refuse-requires returns-2)

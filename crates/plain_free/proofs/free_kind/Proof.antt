@@ -1,5 +1,5 @@
 use Rattle.plain_free.proofs.Chunked.{class-small}
-use Rattle.plain_free.specs.Mirror.{kindFreed, kindFreedBytes}
+use Rattle.plain.specs.Mirror.{kindDone, kindDoneBytes}
 use Rattle.base.proofs.Tests.{picks}
 use borrow.Author.Needs.{needs}
 use Rattle.plain_free.proofs.free_kind.Statement.{statement}
@@ -9,7 +9,7 @@ refuse-requires : tie.Need-refuse-requires
 refuse-requires c κs = search needs
 
 returns : tie.Need-returns
-unfolding kindFreed kindFreedBytes
+unfolding kindDone kindDoneBytes
 returns c = (search picks, search picks)
 
 free-class-requires : tie.Need-free-class-requires
@@ -19,21 +19,21 @@ same-length : tie.Need-same-length
 same-length c = search needs
 
 returns-2 : tie.Need-returns-2
-unfolding kindFreed kindFreedBytes
+unfolding kindDone kindDoneBytes
 returns-2 c = (search picks, search picks)
 
 free-run-requires : tie.Need-free-run-requires
 free-run-requires c κs = search needs
 
 returns-3 : tie.Need-returns-3
-unfolding kindFreed kindFreedBytes
+unfolding kindDone kindDoneBytes
 returns-3 c = (search picks, search picks)
 
 refuse-requires-2 : tie.Need-refuse-requires-2
 refuse-requires-2 c κs = search needs
 
 returns-4 : tie.Need-returns-4
-unfolding kindFreed kindFreedBytes
+unfolding kindDone kindDoneBytes
 returns-4 c = (search picks, search picks)
 
 pub free-kind-spec : {M : Type 1} → statement M

@@ -1,5 +1,5 @@
 use Rattle.plain_free.proofs.Chunked.{chunk-few}
-use Rattle.plain.specs.Engine.{freeMarked}
+use Rattle.plain.specs.Mirror.{markedDone}
 use Rattle.plain_counts.proofs.Counting.{count-most}
 use borrow.Author.Needs.{needs}
 use Rattle.plain_free.proofs.free_marked.Statement.{statement}
@@ -27,7 +27,7 @@ same-length : tie.Need-same-length
 same-length c = search needs
 
 returns : tie.Need-returns
-unfolding freeMarked
+unfolding markedDone
 returns c = (cc, cc)
 
 pub free-marked-spec : {M : Type 1} → statement M

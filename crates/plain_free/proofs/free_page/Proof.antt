@@ -1,4 +1,3 @@
-use Rattle.plain.specs.Plain.{entryAt}
 use Rattle.plain_free.proofs.Chunked.{classed-at}
 use borrow.Author.Needs.{needs}
 use Rattle.plain_free.proofs.free_page.Statement.{statement}
@@ -17,7 +16,6 @@ same-length : tie.Need-same-length
 same-length c = search needs
 
 returns : tie.Need-returns
-unfolding entryAt
 returns c = (rw (c .before .before .before .before .entry .ensures) at (c .before .before .free-kind .ensures .0), rw (c .before .before .before .before .entry .ensures) at (c .before .before .free-kind .ensures .1))
 
 pub free-page-spec : {M : Type 1} → statement M

@@ -1,7 +1,8 @@
 use Rattle.plain.proofs.Bytes.{chunks-most}
 use native.Mathlib.Omega.{arith}
 use Rattle.plain_free.proofs.Chunked.{index-below, start-freed, start-bytes}
-use Rattle.plain.specs.Engine.{freeChunkAt, freeChunkBytes}
+use Rattle.plain.specs.Engine.{freeChunkBytes}
+use Rattle.plain.specs.Mirror.{classDone}
 use Rattle.base.proofs.Tests.{picks}
 use borrow.Author.Needs.{needs}
 use Rattle.plain_free.proofs.free_sized.Statement.{statement}
@@ -29,7 +30,7 @@ refuse-requires : tie.Need-refuse-requires
 refuse-requires c κs = search needs
 
 returns-2 : tie.Need-returns-2
-unfolding freeChunkAt freeChunkBytes
+unfolding classDone freeChunkBytes
 returns-2 c = (search picks, search picks)
 
 pub free-sized-spec : {M : Type 1} → statement M

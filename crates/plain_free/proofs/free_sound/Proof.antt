@@ -1,4 +1,4 @@
-use Rattle.plain.specs.Engine.{plainFree, plainFreeBytes}
+use Rattle.plain.specs.Mirror.{keptFree, keptFreeBytes}
 use borrow.Author.Needs.{needs}
 use Rattle.plain_free.proofs.free_sound.Statement.{statement}
 use Rattle.plain_free.proofs.free_sound.Tie as tie
@@ -13,7 +13,7 @@ same-length : tie.Need-same-length
 same-length c = search needs
 
 returns : tie.Need-returns
-unfolding plainFree plainFreeBytes
+unfolding keptFree keptFreeBytes
 returns c = (cc, cc)
 
 pub free-sound-spec : {M : Type 1} → statement M

@@ -8,12 +8,8 @@ chunk-size-requires c κs = search needs
 free-chunk-requires : tie.Need-free-chunk-requires
 free-chunk-requires c κs = search needs
 
-grant-requires : tie.Need-grant-requires
-grant-requires c κs = search needs
-
 returns : tie.Need-returns
 returns c = cc
 
 pub take-back-spec : {M : Type 1} → statement M
-take-back-spec =
-    tie.close (tie.spec chunk-size-requires free-chunk-requires grant-requires returns)
+take-back-spec = tie.close (tie.spec chunk-size-requires free-chunk-requires returns)

@@ -4,7 +4,7 @@ use native.Mathlib.Omega.{arith}
 use lib.ListN.{length, drop}
 use Rattle.plain.specs.Arrays.{placeOf}
 use Rattle.plain.proofs.Loops.{place-start, place-here, place-next, place-end}
-use Rattle.plain_ready.specs.Mirror.{readyIn}
+use Rattle.plain.specs.Mirror.{readyIn}
 use Rattle.plain_ready.proofs.Scan.{at-place, past-place}
 use borrow.Author.Needs.{needs}
 use Rattle.plain_ready.proofs.first_ready.Statement.{statement}

@@ -1,4 +1,4 @@
-use Rattle.plain_ready.specs.Mirror.{classIn}
+use Rattle.plain.specs.Mirror.{classIn}
 use borrow.Author.Needs.{needs}
 use Rattle.plain_ready.proofs.has_class.Statement.{statement}
 use Rattle.plain_ready.proofs.has_class.Tie as tie

@@ -1,6 +1,6 @@
 use Rattle.base.proofs.Tests.{picks}
 use Rattle.plain.specs.Chunks.{isNoPage}
-use Rattle.plain_ready.specs.Mirror.{readyIn}
+use Rattle.plain.specs.Mirror.{readyIn}
 use borrow.Author.Needs.{needs}
 use Rattle.plain_ready.proofs.is_ready.Statement.{statement}
 use Rattle.plain_ready.proofs.is_ready.Tie as tie

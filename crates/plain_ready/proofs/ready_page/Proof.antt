@@ -1,6 +1,4 @@
-use Rattle.plain.specs.Plain.{entryAt}
-use Rattle.plain.specs.Engine.{isReady, readyPage}
-use Rattle.plain_ready.specs.Mirror.{classIn, readyIn}
+use Rattle.plain.specs.Mirror.{keptReady}
 use borrow.Author.Needs.{needs}
 use Rattle.plain_ready.proofs.ready_page.Statement.{statement}
 use Rattle.plain_ready.proofs.ready_page.Tie as tie
@@ -9,7 +7,7 @@ first-ready-requires : tie.Need-first-ready-requires
 first-ready-requires c κs = search needs
 
 returns : tie.Need-returns
-unfolding readyPage isReady entryAt readyIn classIn
+unfolding keptReady
 returns c = c .first-ready .ensures
 
 pub ready-page-spec : {M : Type 1} → statement M

@@ -22,7 +22,7 @@ same-length : tie.Need-same-length
 same-length c = search needs
 
 returns : tie.Need-returns
-returns c = rw (← (c .before .before .before .before .before .before .before .before .before .before .count-runs .ensures)) (counts-do _ _ _ _ _ _ _ _ (c .before .before .before .before .before .before .before .put-phrase .ensures) (c .before .before .put-line .ensures))
+returns c = rw (← (c .before .before .before .before .before .before .before .before .before .before .before .count-runs .ensures)) (counts-do _ _ _ _ _ _ _ _ (c .before .before .before .before .before .before .before .put-phrase .ensures) (c .before .before .put-line .ensures))
 
 pub put-summary-spec : {M : Type 1} → statement M
 put-summary-spec = tie.close (tie.spec count-runs-requires slice-aggregate-put-phrase put-phrase-requires slice-aggregate-put-line put-line-requires same-length returns)

@@ -1,5 +1,6 @@
 use native.Mathlib.Omega.{arith}
 use Rattle.plain.specs.Plain.{readPlain}
+use Rattle.plain_host.specs.Host.{shown}
 use Rattle.plain_script.proofs.Serving.{replies-few, all-do}
 use borrow.Author.Needs.{needs}
 use Rattle.plain_script.proofs.serve_fresh.Statement.{statement}
@@ -18,7 +19,7 @@ serve-lines-requires : tie.Need-serve-lines-requires
 serve-lines-requires c κs = (c .before .before .before .before .before .before .before .before .before .before .before .pre .0, c .before .before .before .before .before .before .before .format .ensures .sound _ (c .before .before .before .before .before .before .before .before .before .before .before .pre .0), omega (arith, c .before .before .before .before .put-line .ensures .2, c .before .before .before .before .before .before .before .before .before .before .before .pre .1))
 
 put-summary-requires : tie.Need-put-summary-requires
-put-summary-requires c κs = let s = c .before .before .before .before .before .before .before .before .before .before .before .before .before .before .before .before .before .before in omega (arith, c .before .before .before .before .before .before .serve-lines .ensures .place, replies-few (readPlain (c .before .before .before .before .before .before .before .before .before .before .before .before .before .before .format .result) (s .args .chunks .now)) (s .args .input .now), c .before .before .before .before .before .before .before .before .before .before .before .put-line .ensures .2, s .pre .1)
+put-summary-requires c κs = let s = c .before .before .before .before .before .before .before .before .before .before .before .before .before .before .before .before .before .before in omega (arith, c .before .before .before .before .before .before .serve-lines .ensures .place, replies-few (readPlain (shown (c .before .before .before .before .before .before .before .before .before .before .before .before .before .before .format .result)) (s .args .chunks .now)) (s .args .input .now), c .before .before .before .before .before .before .before .before .before .before .before .put-line .ensures .2, s .pre .1)
 
 same-length : tie.Need-same-length
 same-length c = search needs

@@ -8,14 +8,15 @@ use borrow.Author.Needs.{needs}
 use Rattle.script_lines.specs.Lines.{lines}
 use Rattle.plain.specs.Plain.{readPlain}
 use Rattle.plain_rules.specs.Rules.{isSound}
+use Rattle.plain_host.specs.Host.{shown}
 use Rattle.plain_script.proofs.Serving.{Left, left-all, left-as, left-more, left-none, replies-few}
 use Rattle.plain_script.proofs.serve_lines.Statement.{statement}
 use Rattle.plain_script.proofs.serve_lines.Tie as tie
 
 abbrev Inv-loop : tie.InvT-loop
 Inv-loop chunks₀ input out₀ n state₀ next₀ at₀ chunks out state next at =
-    (at ≤ length input + 1) × (length chunks ≡ length chunks₀) × (length out ≡ length out₀) × (6144 ≤ length chunks) × (isSound state chunks ≡ true) ×
-    Left (readPlain state chunks) out next (lines (drop at input)) (readPlain state₀ chunks₀) out₀ n (lines input)
+    (at ≤ length input + 1) × (length chunks ≡ length chunks₀) × (length out ≡ length out₀) × (6144 ≤ length chunks) × (isSound (shown state) chunks ≡ true) ×
+    Left (readPlain (shown state) chunks) out next (lines (drop at input)) (readPlain (shown state₀) chunks₀) out₀ n (lines input)
 
 abbrev μ-loop : tie.MeasureT-loop
 μ-loop chunks₀ input out₀ n state₀ next₀ at₀ chunks out state next at = length input + 1 - at
@@ -41,7 +42,7 @@ serve-line-requires c κs =
     let a = b .before .before .before .before in (
       b .loop .inv .3,
       b .loop .inv .4,
-      omega (arith, b .loop .inv .5 .place, replies-few (readPlain (a .args .s) (a .args .chunks .now)) (a .args .input .now), a .pre .2),
+      omega (arith, b .loop .inv .5 .place, replies-few (readPlain (shown (a .args .s)) (a .args .chunks .now)) (a .args .input .now), a .pre .2),
     )
 
 add-at : tie.Need-add-at Inv-loop μ-loop

@@ -1,4 +1,4 @@
-use Rattle.plain_rules.specs.Rules.{pageOk}
+use Rattle.plain_rules.specs.Mirror.{keptPageOk}
 use borrow.Author.Needs.{needs}
 use Rattle.plain_validate.proofs.page_ok.Statement.{statement}
 use Rattle.plain_validate.proofs.page_ok.Tie as tie
@@ -9,26 +9,15 @@ entry-requires c κs = search needs
 kind-ok-requires : tie.Need-kind-ok-requires
 kind-ok-requires c κs = search needs
 
-runs-ok-requires : tie.Need-runs-ok-requires
-runs-ok-requires c κs = search needs
-
 list-ok-requires : tie.Need-list-ok-requires
 list-ok-requires c κs = search needs
 
-all3-requires : tie.Need-all3-requires
-all3-requires c κs = search needs
+both-requires : tie.Need-both-requires
+both-requires c κs = search needs
 
 returns : tie.Need-returns
-unfolding pageOk
+unfolding keptPageOk
 returns c = cc
 
 pub page-ok-spec : {M : Type 1} → statement M
-page-ok-spec =
-    tie.close
-    (tie.spec
-    entry-requires
-    kind-ok-requires
-    runs-ok-requires
-    list-ok-requires
-    all3-requires
-    returns)
+page-ok-spec = tie.close (tie.spec entry-requires kind-ok-requires list-ok-requires both-requires returns)

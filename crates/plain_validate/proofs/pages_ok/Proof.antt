@@ -4,16 +4,16 @@ use Prim.Native.Nat.{_+_, _-_, _≤_}
 use native.Mathlib.Omega.{arith}
 use Rattle.base.specs.Tests.{allBelow}
 use Rattle.branchless.proofs.Loops.{all-none, all-more, all-fails, all-done}
-use Rattle.plain_rules.specs.Rules.{pageOk}
+use Rattle.plain_rules.specs.Mirror.{keptPageOk}
 use borrow.Author.Needs.{needs}
 use Rattle.plain_validate.proofs.pages_ok.Statement.{statement}
 use Rattle.plain_validate.proofs.pages_ok.Tie as tie
 
 abbrev Inv-loop : tie.InvT-loop
-Inv-loop pages runs ready bytes p₀ p = (p ≤ 12) × (allBelow (pageOk pages runs ready bytes) p ≡ true)
+Inv-loop pages ready bytes p₀ p = (p ≤ 12) × (allBelow (keptPageOk pages ready bytes) p ≡ true)
 
 abbrev μ-loop : tie.MeasureT-loop
-μ-loop pages runs ready bytes p₀ p = 12 - p
+μ-loop pages ready bytes p₀ p = 12 - p
 
 loop-holds : tie.Need-loop-holds Inv-loop μ-loop
 loop-holds c = (omega arith, all-none _)

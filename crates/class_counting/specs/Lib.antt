@@ -1,0 +1,1 @@
+pub mod Mirror  -- the tally of a class, raised

@@ -1,0 +1,1 @@
+pub mod Lifted  -- the peak follows used

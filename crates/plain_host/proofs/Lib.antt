@@ -1,0 +1,1 @@
+pub mod Loan  -- a host's own table, lent for the call

@@ -1,0 +1,1 @@
+pub mod Host  -- what a host has, as a plain state

@@ -1,0 +1,1 @@
+pub mod Judged  -- the loops over the lent table

@@ -1,0 +1,1 @@
+pub mod Passing  -- a test by its kind

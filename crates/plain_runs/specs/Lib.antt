@@ -1,0 +1,1 @@
+pub mod Tests  -- what the table of free runs is scanned for
