@@ -3,7 +3,7 @@
 use mathlib.Core.Path.{_≡_, refl, sym, ap, _∙_}
 use mathlib.Core.Bool.{Bool, true, false, not}
 use mathlib.Core.List.{List}
-use Prim.Native.Nat.{ℕ, _+_, _*_, _/_, _%_, _≤_, _<_}
+use Prim.Native.Nat.{ℕ, zero, suc, _+_, _*_, _/_, _%_, _≤_, _<_}
 use native.Mathlib.Omega.{arith}
 use lib.ListN.{length}
 use borrow.Author.Tests.{le-ltb}
@@ -16,7 +16,7 @@ use Rattle.maps.specs.Mirror.{lowestClear}
 use Rattle.rules.specs.Bytes.{mapBase}
 use Rattle.map_count.specs.Mirror.{mapBits}
 use Rattle.map_occupancy.specs.Mirror.{bitFor, lastFree}
-use Rattle.map_occupancy.proofs.Words.{bits-most, whole-words}
+use Rattle.map_occupancy.proofs.Words.{bits-most, whole-words, words-paged}
 use Rattle.map_places.proofs.Places.{base-word}
 use Rattle.classes.specs.Mirror.{Whole, mapWord, countUsed}
 use Rattle.classes.proofs.Numbers.{tally-whole, map-whole}
@@ -50,6 +50,14 @@ module _ (w : ℕ) (s : List ℕ) (c p k i : ℕ) (out : List ℕ) (r : Bool) (t
 
     pub more-recorded : r ≡ false → out ≡ withMark (countUsed w s c) (8 * k) (i % 64) true → out ≡ takenAt w s c p k i
     more-recorded t q = at s (stays t) (q ∙ recorded-marked (countUsed w s c) k c i large true)
+
+-- ---- a map in the page has words
+
+pub some-words : (c m : ℕ) → c < 3 → m ≡ mapBits c / 64 → 1 ≤ m
+some-words zero m h e = let z : _≡_ {A = ℕ} 8 (mapBits 0 / 64) = words-paged 0 h in omega arith
+some-words (suc zero) m h e = let z : _≡_ {A = ℕ} 4 (mapBits 1 / 64) = words-paged 1 h in omega arith
+some-words (suc (suc zero)) m h e = let z : _≡_ {A = ℕ} 2 (mapBits 2 / 64) = words-paged 2 h in omega arith
+some-words (suc (suc (suc c))) m h e = absurd (omega arith)
 
 -- ---- the map of page p begins with word k
 

@@ -33,7 +33,7 @@ fn alloc_paged(pool: &mut [u8], w: u8, pages: u16, c: u8, p: PageNumber) -> u16
     ensures slice { λ r. ⌜ now (pool .exit) ≡ chunkTaken w (now (pool .entry)) pages c (p .0) r ⌝ }
 {
     let k = map_places::paged_word(w, pages, p, c);
-    let i = map_search::lowest_clear(pool, k, map_occupancy::word_count(c));
+    let i = map_search::lowest_paged(pool, k, map_occupancy::word_count(c));
     take_paged(pool, w, c, p, k, i);
     i
 }

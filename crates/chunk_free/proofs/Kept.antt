@@ -4,12 +4,12 @@ use mathlib.Core.Bool.{Bool, false}
 use mathlib.Core.List.{List}
 use Prim.Native.Nat.{ℕ, _+_, _*_, _/_, _%_, _≤_, _<_}
 use Rattle.maps.specs.Bitmap.{withMark}
-use Rattle.map_occupancy.specs.Mirror.{bitFor, isFull}
+use Rattle.map_occupancy.specs.Mirror.{bitFor, wasFull}
 use Rattle.classes.specs.Mirror.{countBack}
 use Rattle.chunks.specs.Mirror.{fullReturns, keptAt}
 use Rattle.chunks.proofs.Marks.{paged-marked, recorded-marked}
 
-module _ (w : ℕ) (s : List ℕ) (c p k i : ℕ) (full : Bool) (a b out : List ℕ) (told : full ≡ isFull s k c) (listed : a ≡ fullReturns w s c p full) (counted : b ≡ countBack w a c) where
+module _ (w : ℕ) (s : List ℕ) (c p k i : ℕ) (full : Bool) (a b out : List ℕ) (told : full ≡ wasFull s k c i) (listed : a ≡ fullReturns w s c p full) (counted : b ≡ countBack w a c) where
   at : out ≡ withMark b (8 * k) (bitFor c i) false → out ≡ keptAt w s c p k i
   unfolding keptAt
   at q = q ∙ ap (λ (x : List ℕ). withMark x (8 * k) (bitFor c i) false) (counted ∙ ap (λ (x : List ℕ). countBack w x c) (listed ∙ ap (fullReturns w s c p) told))

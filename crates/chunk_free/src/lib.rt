@@ -36,7 +36,7 @@ fn keep_paged(pool: &mut [u8], w: u8, c: u8, p: PageNumber, k: usize, i: u16)
     requires { ⌜ (c < 3) × (k < 67108864) × (k + i / 64 < length (now pool) / 8) × (countsPlace w c < length (now pool) / 8) ⌝ }
     ensures { λ _. ⌜ now (pool .exit) ≡ keptAt w (now (pool .entry)) c (p .0) k i ⌝ }
 {
-    let full = map_occupancy::full_paged(pool, k, c);
+    let full = map_occupancy::was_full_paged(pool, k, c, i);
     class_lists::return_if_full(pool, w, c, p, full);
     class_counting::count_back(pool, w, c);
     map_marks::clear_mark_in(pool, k + (i / 64) as usize, i);

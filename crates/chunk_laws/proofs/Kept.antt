@@ -31,7 +31,7 @@ use Rattle.shows.specs.Shows.{Unlisted}
 use Rattle.shows.proofs.Shows.{state-shows, not-start, not-listed}
 use Rattle.run_laws.proofs.Shown.{state-scene}
 use Rattle.classes.specs.Mirror.{mapWord, chunkBorrowed, countBack}
-use Rattle.map_occupancy.specs.Mirror.{isFull}
+use Rattle.map_occupancy.specs.Mirror.{wasFull}
 use Rattle.map_occupancy.proofs.Words.{bit-own}
 use Rattle.chunks.specs.Mirror.{classLinks, fullReturns, keptAt, freedAt, chunkFreed}
 use Rattle.drawing.specs.Draw.{mapped, draw}
@@ -71,8 +71,8 @@ module _ {w : ℕ} {s : List ℕ} {m : State} {p c : ℕ} {k : ℕ → Bool} (H 
   used-more : usedOn c (slab c k) ≡ usedOn c (slab c k′) + 1
   used-more = used-bump c k′ k i in-use in-range (upd-same k i false) set (λ j d. sym (upd-other k i false j d))
 
-  full : (b : Bool) → hasClear c k ≡ b → isFull (draw w s m) (mapWord w P p c) c ≡ not b
-  full b h = remarked.full-told H ∙ ap not h
+  full : (b : Bool) → hasClear c k ≡ b → wasFull (draw w s m) (mapWord w P p c) c i ≡ not b
+  full b h = remarked.was-full-told H i in-range ∙ ap not h
 
   -- ---- the class record
 
@@ -90,13 +90,13 @@ module _ {w : ℕ} {s : List ℕ} {m : State} {p c : ℕ} {k : ℕ → Bool} (H 
 
   -- ---- the lists
 
-  stays : hasClear c k ≡ true → fullReturns w (draw w s m) c p (isFull (draw w s m) (mapWord w P p c) c) ≡ paint w P (midway m n) S
+  stays : hasClear c k ≡ true → fullReturns w (draw w s m) c p (wasFull (draw w s m) (mapWord w P p c) c i) ≡ paint w P (midway m n) S
   unfolding fullReturns pick relisted
   stays h =
       rw (full true h)
       (remarked.list-stays H i false in-range l (m .tally) Wn (rw h))
 
-  returns : hasClear c k ≡ false → fullReturns w (draw w s m) c p (isFull (draw w s m) (mapWord w P p c) c) ≡ paint w P (midway m n) S
+  returns : hasClear c k ≡ false → fullReturns w (draw w s m) c p (wasFull (draw w s m) (mapWord w P p c) c i) ≡ paint w P (midway m n) S
   unfolding fullReturns pick draw
   returns h =
       rw (

@@ -48,9 +48,9 @@ use Rattle.run_laws.proofs.Shown.{state-scene}
 use Rattle.map_count.specs.Mirror.{mapBits}
 use Rattle.classes.specs.Mirror.{mapWord}
 use Rattle.classes.proofs.Numbers.{word-paged, word-recorded, base-paged, base-recorded}
-use Rattle.map_occupancy.specs.Mirror.{isFull, lastFree, lastTaken}
+use Rattle.map_occupancy.specs.Mirror.{wasFull, lastFree, lastTaken}
 use Rattle.map_occupancy.proofs.Words.{bits-most}
-use Rattle.map_occupancy.proofs.Told.{full-is, last-free-is, last-taken-is}
+use Rattle.map_occupancy.proofs.Told.{was-full-is, last-free-is, last-taken-is}
 use Rattle.chunks.specs.Mirror.{listOf, delisted}
 use Rattle.drawing.specs.Draw.{inMap, mappedByte, mapped, draw}
 use Rattle.drawing.proofs.Mapped.{length-mapped, mapped-keeps}
@@ -167,8 +167,8 @@ module _ {w : ℕ} {s : List ℕ} {m : State} {p c : ℕ} {k : ℕ → Bool} (H 
   unfolding draw
   mark-told i l = ap (λ (x : ℕ). mark (paint w P (stateImage m) S) x i) base ∙ shown-mark i l
 
-  pub full-told : isFull (draw w s m) (mapWord w P p c) c ≡ not (hasClear c k)
-  full-told = full-is (draw w s m) bytes (mapWord w P p c) c in-pool k mark-told (page-ok .past-clear)
+  pub was-full-told : (i : ℕ) → i < chunks c → wasFull (draw w s m) (mapWord w P p c) c i ≡ not (hasClear c k)
+  was-full-told = was-full-is (draw w s m) bytes (mapWord w P p c) c in-pool k mark-told (page-ok .past-clear)
 
   pub last-free-told : (i : ℕ) → i < chunks c → k i ≡ false → lastFree (draw w s m) (mapWord w P p c) c i ≡ not (hasClear c (upd k i true))
   last-free-told i = last-free-is (draw w s m) bytes (mapWord w P p c) c in-pool k mark-told (page-ok .past-clear) i

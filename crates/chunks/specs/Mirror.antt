@@ -16,7 +16,7 @@ use Rattle.rules.specs.Bytes.{mapBase}
 use Rattle.run_extents.specs.Mirror.{frontPage}
 use Rattle.run_neighbours.specs.Mirror.{pagesReleased}
 use Rattle.map_count.specs.Mirror.{mapBits}
-use Rattle.map_occupancy.specs.Mirror.{bitFor, isFull, lastFree, lastTaken}
+use Rattle.map_occupancy.specs.Mirror.{bitFor, wasFull, lastFree, lastTaken}
 use Rattle.classes.specs.Mirror.{mapWord, countUsed, countPageUsed, countBack, countPageBack}
 
 -- ---- class lists
@@ -68,7 +68,7 @@ pageCut w s P c p = countPageUsed w (newMapAt w (enlisted w (frontPage w s p) c 
 
 -- chunk i of page p, whose map begins with word k, comes back and others stay taken
 unfoldable pub keptAt : (w : ℕ) (s : List ℕ) (c p k i : ℕ) → List ℕ
-keptAt w s c p k i = withMark (countBack w (fullReturns w s c p (isFull s k c)) c) (8 * k) (bitFor c i) false
+keptAt w s c p k i = withMark (countBack w (fullReturns w s c p (wasFull s k c i)) c) (8 * k) (bitFor c i) false
 
 -- the last chunk i of page p comes back: the page leaves the list and is released
 unfoldable pub pageDropped : (w : ℕ) (s : List ℕ) (P c p i : ℕ) → List ℕ

@@ -3,7 +3,9 @@
 use records::PageNumber;
 ghost use mathlib.Core.Path.{_≡_};
 ghost use Rattle.records.specs.Header.{headerAt};
-ghost use Rattle.records.specs.Class.{classAt};
+ghost use Rattle.words.specs.Word.{word, setWord};
+ghost use Rattle.records.specs.Class.{packCounts, unpackClass, classAt};
+ghost use Rattle.records.specs.Mirror.{firstTo};
 ghost use Rattle.lists.specs.Mirror.{firstOf, withFirstRun, withFirstPage, withFirst};
 
 fn first_run(pool: &[u8]) -> PageNumber
@@ -38,11 +40,24 @@ fn put_first_run(pool: &mut [u8], p: PageNumber)
     record_header::put_header(pool, records::first_run_to(h, p));
 }
 
+// The first page is the top 16 bits of the word of counts; no other word of the record changes.
+fn first_changed(v: u64, p: PageNumber) -> u64
+    ensures { λ r. ⌜ r ≡ packCounts (firstTo (unpackClass v 0) (p .0)) ⌝ }
+{
+    p.0 as u64 * 281474976710656 + v % 281474976710656
+}
+
+fn change_first(pool: &mut [u8], k: usize, p: PageNumber)
+    ensures { λ _. ⌜ now (pool .exit) ≡ setWord (now (pool .entry)) k (packCounts (firstTo (unpackClass (word (now (pool .entry)) k) 0) (p .0))) ⌝ }
+{
+    let v = cells::get_word(pool, k);
+    cells::put_word(pool, k, first_changed(v, p));
+}
+
 fn put_first_page(pool: &mut [u8], w: u8, c: u8, p: PageNumber)
     ensures { λ _. ⌜ now (pool .exit) ≡ withFirstPage w (now (pool .entry)) c (p .0) ⌝ }
 {
-    let r = record_class::get_class(pool, w, c);
-    record_class::put_class(pool, w, c, records::first_to(r, p));
+    change_first(pool, records::place(1, w, c as u16), PageNumber(p.0));
 }
 
 // Page p becomes the list's first page.

@@ -23,7 +23,7 @@ use Rattle.model.proofs.Classes.{large-chunks}
 use Rattle.map_count.specs.Mirror.{mapBits}
 use Rattle.classes.specs.Mirror.{ownWord}
 use Rattle.classes.proofs.Numbers.{chunks-past, chunks-512, own-past, own-small}
-use Rattle.map_occupancy.specs.Mirror.{marksAre, fullMarks, ownMarks, isFull, lastFree, lastTaken, bitFor, expected, wordsAre, wordsFrom}
+use Rattle.map_occupancy.specs.Mirror.{marksAre, fullMarks, ownMarks, isFull, wasFull, lastFree, lastTaken, bitFor, expected, wordsAre, wordsFrom}
 
 -- ---- the words of the classes, by tables; 9 stands for all past 8
 
@@ -227,13 +227,17 @@ module _ (s : List ℕ) (k c : ℕ) where
   pub free-bits : (i j : ℕ) → j < mapBits c / 64 → j ≡ i / 64 → bitsOf (λ b. upd (fullMarks c) i false (64 * j + b)) 64 ≡ bitsOf (upd (fullMarks c) (i % 64) false) 64
   free-bits i j l z = same-word (fullMarks c) i j false z ∙ bits-ext _ _ 64 (λ b h. upd-at _ _ (i % 64) false b (full-same c j b l h))
 
-  full-bits : (x j : ℕ) → x ≡ bitsOf (fullMarks c) 64 → j < mapBits c / 64 → x ≡ bitsOf (λ b. fullMarks c (64 * j + b)) 64
+  pub full-bits : (x j : ℕ) → x ≡ bitsOf (fullMarks c) 64 → j < mapBits c / 64 → x ≡ bitsOf (λ b. fullMarks c (64 * j + b)) 64
   full-bits x j e l = e ∙ sym (bits-ext _ _ 64 (λ b h. full-same c j b l h))
 
-  full-told : (x m : ℕ) (r : Bool) → x ≡ bitsOf (fullMarks c) 64 → m ≡ mapBits c / 64 → r ≡ wordsAre s k m x x 8 x → r ≡ isFull s k c
+  -- whichever word is named apart
+  full-all : (x m at : ℕ) → x ≡ bitsOf (fullMarks c) 64 → m ≡ mapBits c / 64 → wordsAre s k m x x at x ≡ isFull s k c
   unfolding isFull
-  full-told x m r e d q =
-      q ∙ rw d (alike s k (mapBits c / 64) x x 8 x (fullMarks c) (λ j l. every x x 8 j (λ z. omega (arith, bits-most c)) ∙ full-bits x j e l))
+  full-all x m at e d = rw d (alike s k (mapBits c / 64) x x at x (fullMarks c) (λ j l. each j (eq? j at) ∙ full-bits x j e l))
+    where
+      each : (j : ℕ) → (j ≡ at) ⊎ (j ≢ at) → expected x x at x j ≡ x
+      each j (inl z) = expected-odd x x at x j z
+      each j (inr z) = every x x at j z
 
   free-odd : (i x o : ℕ) → x ≡ bitsOf (fullMarks c) 64 → o ≡ bitAnd x (18446744073709551615 - 9223372036854775808 / 2 ^ (i % 64)) → o ≡ bitsOf (upd (fullMarks c) (i % 64) false) 64
   free-odd i x o e p = p ∙ ap (λ (y : ℕ). bitAnd y (18446744073709551615 - 9223372036854775808 / 2 ^ (i % 64))) e ∙ free-word c (i % 64) (omega arith)
@@ -294,7 +298,11 @@ module _ (s : List ℕ) (k c : ℕ) where
   -- ---- maps in the page
 
   pub full-paged-told : (m : ℕ) (r : Bool) → c < 3 → m ≡ mapBits c / 64 → r ≡ wordsAre s k m 18446744073709551615 18446744073709551615 8 18446744073709551615 → r ≡ isFull s k c
-  full-paged-told m r l d q = full-told _ m r (full-paged c l) d q
+  full-paged-told m r l d q = q ∙ full-all _ m 8 (full-paged c l) d
+
+  pub was-paged-told : (i m : ℕ) (r : Bool) → c < 3 → m ≡ mapBits c / 64 → r ≡ wordsFrom s k m 18446744073709551615 18446744073709551615 (i / 64) 18446744073709551615 → r ≡ wasFull s k c i
+  unfolding wasFull wordsFrom
+  was-paged-told i m r l d q = let e = full-paged c l in rw (bit-paged c i l) (q ∙ first-then (i / 64) _ _ _ _ e (full-all _ m (i / 64) e d))
 
   pub free-paged-told : (i o m : ℕ) (r : Bool) → c < 3 → o ≡ 18446744073709551615 - 9223372036854775808 / 2 ^ (i % 64) → m ≡ mapBits c / 64
       → r ≡ wordsFrom s k m 18446744073709551615 18446744073709551615 (i / 64) o → r ≡ lastFree s k c i
@@ -314,7 +322,7 @@ module _ (s : List ℕ) (k c : ℕ) where
   module _ (large : 3 ≤ c) where
     pub full-recorded-told : (x : ℕ) (r : Bool) → x ≡ bitsOf (fullMarks c) 64 → r ≡ eqb (word s k) x → r ≡ isFull s k c
     full-recorded-told x r e q =
-        full-told x (mapBits c / 64) r e refl (one-word s k (mapBits c / 64) x x 8 x x r (words-recorded c large) (sym (every x x 8 0 (λ z. omega arith))) q)
+        one-word s k (mapBits c / 64) x x 8 x x r (words-recorded c large) (sym (every x x 8 0 (λ z. omega arith))) q ∙ full-all x (mapBits c / 64) 8 e refl
 
     module _ (i : ℕ) where
       low : i % 64 % 64 ≡ i % 64
@@ -322,6 +330,12 @@ module _ (s : List ℕ) (k c : ℕ) where
 
       none : 0 ≡ i % 64 / 64
       none = omega arith
+
+      pub was-recorded-told : (r : Bool) → r ≡ isFull s k c → r ≡ wasFull s k c i
+      unfolding wasFull
+      was-recorded-told r d =
+          let x = bitsOf (fullMarks c) 64 in
+          rw (bit-recorded c i large) (first-alone (i % 64 / 64) x x r _ (sym none) refl (d ∙ sym (full-recorded-told x _ refl refl)) d)
 
       pub free-recorded-told : (x : ℕ) (r : Bool) → x ≡ bitsOf (fullMarks c) 64 → r ≡ eqb (word s k) (bitAnd x (18446744073709551615 - 9223372036854775808 / 2 ^ (i % 64))) → r ≡ lastFree s k c i
       unfolding lastFree

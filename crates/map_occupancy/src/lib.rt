@@ -8,7 +8,7 @@ ghost use Rattle.base.specs.Tests.{pick};
 ghost use Rattle.words.specs.Word.{word};
 ghost use Rattle.maps.specs.Bitmap.{bitsOf};
 ghost use Rattle.map_count.specs.Mirror.{mapBits};
-ghost use Rattle.map_occupancy.specs.Mirror.{expected, wordsAre, wordsFrom, fullMarks, isFull, lastFree, lastTaken};
+ghost use Rattle.map_occupancy.specs.Mirror.{expected, wordsAre, wordsFrom, fullMarks, isFull, wasFull, lastFree, lastTaken};
 
 // Each word of the map of a full page of class 0, 1 or 2.
 const FULL: u64 = 18446744073709551615;
@@ -93,12 +93,21 @@ pub fn is_full(pool: &[u8], k: usize, c: u8) -> bool
     }
 }
 
-pub fn full_paged(pool: &[u8], k: usize, c: u8) -> bool
+fn full_paged(pool: &[u8], k: usize, c: u8) -> bool
     requires { ⌜ (c < 3) × (k < 67108864) ⌝ }
     ensures { λ r. ⌜ r ≡ isFull (now (pool .entry)) k c ⌝ }
 {
     let m = word_count(c);
     all_words(pool, k, m, FULL, FULL, 8, FULL)
+}
+
+// Whether the page of its chunk i is full: the word that has the chunk's mark is compared first.
+pub fn was_full_paged(pool: &[u8], k: usize, c: u8, i: u16) -> bool
+    requires { ⌜ (c < 3) × (k < 67108864) × (k + i / 64 < length (now pool) / 8) ⌝ }
+    ensures { λ r. ⌜ r ≡ wasFull (now (pool .entry)) k c i ⌝ }
+{
+    let m = word_count(c);
+    words_from(pool, k, m, FULL, FULL, (i / 64) as usize, FULL)
 }
 
 fn full_in_record(pool: &[u8], k: usize, c: u8) -> bool

@@ -11,6 +11,8 @@ use lib.Dec.{eqb}
 use lib.ListN.{length}
 use lib.Pow.{pow-mono}
 use borrow.Author.Tests.{not-true, not-false}
+use Rattle.base.specs.Search.{least}
+use Rattle.base.proofs.Search.{least-spec, least-is}
 use Rattle.base.proofs.Cases.{lt?}
 use Rattle.words.specs.Word.{Bytes, word}
 use Rattle.maps.specs.Bitmap.{mark, bitsOf}
@@ -111,3 +113,15 @@ one-word s B k v inside read =
   where
     here : v ≡ word s (k + 0)
     here = let z : k + 0 ≡ k = omega arith in read ∙ ap (word s) (sym z)
+
+-- a free chunk in the first word is that of the whole map
+pub first-word : (s : List ℕ) (base i m : ℕ) → i ≡ lowestClear s base 64 → i < 64 → 1 ≤ m → i ≡ lowestClear s base (64 * m)
+unfolding lowestClear
+first-word s base i m e h g =
+    let q : ℕ → Bool = λ j. not (mark s base j) in
+    let L = least-spec q 64 in
+    e ∙ sym (least-is q (64 * m) (least q 64) (record {
+      at-most = omega (arith, L .at-most);
+      before = λ j l. L .before j l;
+      passes = λ _. L .passes (omega arith);
+    }))

@@ -7,7 +7,7 @@ ghost use Rattle.base.specs.Tests.{pick};
 ghost use Rattle.maps.specs.Mirror.{lowestClear};
 
 // The lowest clear mark of a map of m words from word k on, or their 64 * m marks' number where all are set.
-pub fn lowest_clear(pool: &[u8], k: usize, m: usize) -> u16
+fn lowest_clear(pool: &[u8], k: usize, m: usize) -> u16
     requires { ⌜ (k < 67108864) × (m ≤ 8) ⌝ }
     ensures { λ r. ⌜ r ≡ lowestClear (now (pool .entry)) (8 * k) (64 * m) ⌝ }
 {
@@ -16,6 +16,15 @@ pub fn lowest_clear(pool: &[u8], k: usize, m: usize) -> u16
     } else {
         by_bits(pool, 8 * k as u32, 64 * m as u16)
     }
+}
+
+// The same where the caller knows that word k is whole: most maps have a free chunk there.
+pub fn lowest_paged(pool: &[u8], k: usize, m: usize) -> u16
+    requires { ⌜ (k < 67108864) × (1 ≤ m) × (m ≤ 8) × (k < length (now pool) / 8) ⌝ }
+    ensures { λ r. ⌜ r ≡ lowestClear (now (pool .entry)) (8 * k) (64 * m) ⌝ }
+{
+    let i = lowest_in(pool, k);
+    if i < 64 { i } else { lowest_clear(pool, k, m) }
 }
 
 // A word at a time, where all words of the map lie in the slice: as many marks are set before the first clear one as the word turned over

@@ -1,7 +1,7 @@
 // The records of a pool by value: header, class records and page records, and where they stand.
 ghost use mathlib.Core.Path.{_≡_};
 ghost use Prim.Native.Nat.{_+_, _*_};
-ghost use Rattle.records.specs.Mirror.{freeTo, firstRunTo, firstTo, usedTo, totalTo};
+ghost use Rattle.records.specs.Mirror.{freeTo, firstRunTo, usedTo, totalTo};
 ghost use Rattle.records.specs.Class.{emptyClass};
 
 // Where no page is meant: after a list's last page, before its first, and in a link without use.
@@ -114,18 +114,6 @@ pub fn empty_class() -> ClassRecord
         total: 0,
         reqs: 0,
         fails: 0,
-    }
-}
-
-pub fn first_to(r: ClassRecord, p: PageNumber) -> ClassRecord
-    ensures { λ x. ⌜ x ≡ firstTo r (p .0) ⌝ }
-{
-    ClassRecord {
-        first: PageNumber(p.0),
-        used: r.used,
-        total: r.total,
-        reqs: r.reqs,
-        fails: r.fails,
     }
 }
 

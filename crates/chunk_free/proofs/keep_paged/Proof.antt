@@ -3,8 +3,8 @@ use borrow.Author.Needs.{needs}
 use Rattle.chunk_free.proofs.keep_paged.Statement.{statement}
 use Rattle.chunk_free.proofs.keep_paged.Tie as tie
 
-full-paged-requires : tie.Need-full-paged-requires
-full-paged-requires c κs = search needs
+was-full-paged-requires : tie.Need-was-full-paged-requires
+was-full-paged-requires c κs = search needs
 
 return-if-full-requires : tie.Need-return-if-full-requires
 return-if-full-requires c κs = search needs
@@ -30,13 +30,13 @@ returns c =
     let b = m .before .before .before .before in
     let r = b .before .before .before .before in
     let f = r .before .before in
-    kept-paged _ _ _ _ _ _ _ _ _ _ (f .full-paged .ensures) (r .return-if-full .ensures) (b .count-back .ensures) (f .before .before .before .pre .0) (m .clear-mark-in .ensures)
+    kept-paged _ _ _ _ _ _ _ _ _ _ (f .was-full-paged .ensures) (r .return-if-full .ensures) (b .count-back .ensures) (f .before .before .before .pre .0) (m .clear-mark-in .ensures)
 
 pub keep-paged-spec : {M : Type 1} → statement M
 keep-paged-spec =
     tie.close
     (tie.spec
-    full-paged-requires
+    was-full-paged-requires
     return-if-full-requires
     count-back-requires
     cast-clear-mark-in

@@ -1,3 +1,4 @@
+use Rattle.map_occupancy.proofs.Words.{was-recorded-told}
 use Rattle.chunk_free.proofs.Kept.{kept-recorded}
 use borrow.Author.Needs.{needs}
 use Rattle.chunk_free.proofs.keep_recorded.Statement.{statement}
@@ -24,7 +25,8 @@ returns c =
     let b = m .before .before .before .before in
     let r = b .before .before .before .before in
     let f = r .before .before in
-    kept-recorded _ _ _ _ _ _ _ _ _ _ (f .full-recorded .ensures) (r .return-if-full .ensures) (b .count-back .ensures) (f .before .before .before .pre .0) (m .clear-mark-in .ensures)
+    let e = f .before .before .before in
+    kept-recorded _ _ _ _ _ _ _ _ _ _ (was-recorded-told _ _ _ (e .pre .0) (e .args .i) _ (f .full-recorded .ensures)) (r .return-if-full .ensures) (b .count-back .ensures) (e .pre .0) (m .clear-mark-in .ensures)
 
 pub keep-recorded-spec : {M : Type 1} → statement M
 keep-recorded-spec =

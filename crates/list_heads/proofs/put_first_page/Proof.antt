@@ -1,25 +1,23 @@
-use Rattle.lists.specs.Mirror.{withFirstPage}
+use native.Mathlib.Omega.{arith}
+use Rattle.list_heads.proofs.Words.{first-put}
 use borrow.Author.Needs.{needs}
 use Rattle.list_heads.proofs.put_first_page.Statement.{statement}
 use Rattle.list_heads.proofs.put_first_page.Tie as tie
 
-get-class-requires : tie.Need-get-class-requires
-get-class-requires c κs = search needs
+place-requires : tie.Need-place-requires
+place-requires c κs = search needs
 
-first-to-requires : tie.Need-first-to-requires
-first-to-requires c κs = search needs
-
-put-class-requires : tie.Need-put-class-requires
-put-class-requires c κs = search needs
+change-first-requires : tie.Need-change-first-requires
+change-first-requires c κs = search needs
 
 same-length : tie.Need-same-length
 same-length c = search needs
 
 returns : tie.Need-returns
-unfolding withFirstPage
-returns c = rw (c .before .before .before .first-to .ensures, c .before .before .before .before .before .get-class .ensures) at (c .before .before .put-class .ensures)
+returns c =
+    let known = c .before .before .before .before .before in
+    let b = known .before in
+    first-put (b .args .w) (b .args .pool .now) (λ i. known .slice-known .given i .fits) (b .args .c) _ (b .args .p .0) (c .before .before .before .place .ensures) (search needs) _ (c .before .before .change-first .ensures)
 
 pub put-first-page-spec : {M : Type 1} → statement M
-put-first-page-spec =
-    tie.close
-    (tie.spec get-class-requires first-to-requires put-class-requires same-length returns)
+put-first-page-spec = tie.close (tie.spec place-requires change-first-requires same-length returns)

@@ -1,0 +1,1 @@
+pub mod Words  -- the first page in the word of counts
