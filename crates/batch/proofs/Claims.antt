@@ -9,19 +9,17 @@ use lib.ListN.{length, getD, take, drop, length-append, length-drop, drop-of-len
 use lib.Seq.{getD-append-add, getD-drop, drop-append-add}
 use Rattle.base.proofs.Cases.{eq?}
 use Rattle.words.specs.Word.{Bytes}
-use Rattle.answers.specs.Outcome.{Outcome}
 use Rattle.answer_words.specs.Word.{wordOf}
 use Rattle.model.specs.Calls.{Call}
 use Rattle.model.specs.Live.{Block}
-use Rattle.rules.specs.Bytes.{pagesIn, brokenRule}
-use Rattle.demands.specs.Calls.{answered, after}
-use Rattle.demands.specs.Demands.{fed, Reached}
+use Rattle.rules.specs.Bytes.{brokenRule}
+use Rattle.demands.specs.Demands.{Reached}
 use Rattle.demands.specs.Examples.{sliceAfter}
 use Rattle.demands.proofs.Calls.{demand1}
 use Rattle.demands.proofs.Turns.{demand3}
 use Rattle.demands.proofs.BookCorollaries.{next}
-use Rattle.batch.specs.Batch.{callIn, outcomeOn, sliceOn, replyTo, leftBy, replies, leftByAll, batchOutcome, batchPool, batchAnswers}
-use Rattle.batch.specs.Claim.{withCall, callsIn, outcomeIn, fedWith, fedAll, Served, Laws, Claims}
+use Rattle.batch.specs.Batch.{callIn, outcomeOn, sliceOn, replyTo, leftBy, replies, leftByAll, batchPool, batchAnswers}
+use Rattle.batch.specs.Claim.{withCall, callsIn, outcomeIn, fedWith, fedAll, Served, Claims}
 use Rattle.sound_pools.specs.Sound.{Validated}
 use Rattle.batch.proofs.Serving.{stays-valid}
 use Rattle.batch.proofs.Whole.{is-short, is-unsound, is-granted, pool-is, answers-are}

@@ -1,12 +1,11 @@
 -- Requests in order: two lists in a row, one request more, and a turn of the loop.
 use mathlib.Core.Path.{_≡_, refl, sym, ap, _∙_}
 use mathlib.Core.List.{List, [], _∷_, _++_}
-use Prim.Native.Nat.{ℕ, suc, _+_, _≤_, _<_}
+use Prim.Native.Nat.{ℕ, suc, _+_, _<_}
 use native.Mathlib.Numerals.{add-one}
 use native.Mathlib.Omega.{arith}
 use lib.ListN.{length, getD, set, take, drop}
 use lib.Seq.{take-suc, drop-cons, set-at, append-snoc, length-take-le}
-use Rattle.words.specs.Word.{Bytes}
 use Rattle.batch.specs.Batch.{replyTo, leftBy, replies, leftByAll}
 
 module _ (w : ℕ) where

@@ -1,5 +1,5 @@
 -- An answer reads back from its word: its value has at most 32 bits.
-use mathlib.Core.Path.{_≡_, refl, sym, ap, _∙_}
+use mathlib.Core.Path.{_≡_, refl}
 use mathlib.Core.Logic.{_⊎_, inl, inr, _≢_}
 use mathlib.Core.List.{List}
 use Prim.Native.Nat.{ℕ, _+_, _*_, _/_, _%_, _≤_, _<_}
@@ -13,7 +13,7 @@ use Rattle.model.specs.Classes.{Need, nothing, chunkOf, pages, needOf}
 use Rattle.model.specs.State.{State}
 use Rattle.model.specs.Calls.{Call, Alloc, Free, Answer, at, freed, no, step}
 use Rattle.model.specs.Effects.{Effect, AllocEffect, FreeEffect}
-use Rattle.model.specs.Live.{Block, offset, extent, blockFor}
+use Rattle.model.specs.Live.{offset, blockFor}
 use Rattle.model.proofs.Claim.{claims}
 use Rattle.rules.specs.Bytes.{brokenRule, read}
 use Rattle.drawing.specs.Claim.{Fitting}

@@ -9,7 +9,7 @@ ghost use Prim.Native.Nat.{ℕ, _+_, _-_, _≤_, _<_};
 ghost use lib.Dec.{eqb};
 ghost use lib.ListN.{length, getD};
 ghost use Rattle.base.specs.Tests.{pick, allBelow};
-ghost use Rattle.records.specs.Layout.{pagesFrom};
+ghost use Rattle.records.specs.Layout.{noPage, pagesFrom};
 ghost use Rattle.answers.specs.Outcome.{ofBatch};
 ghost use Rattle.rules.specs.Bytes.{pagesIn, fieldsOf};
 ghost use Rattle.validate_totals.specs.Mirror.{Scanned};
@@ -65,7 +65,7 @@ fn same_page(s: &[u8], t: &[u8], w: u8, p: PageNumber) -> bool
 
 // The first page that differs ends the pass.
 fn same_pages(s: &[u8], t: &[u8], w: u8, n: usize) -> bool
-    requires { ⌜ n ≤ 65535 ⌝ }
+    requires { ⌜ n ≤ noPage ⌝ }
     ensures { λ r. ⌜ r ≡ allBelow (samePageAt (fieldsOf w (now (s .entry))) (fieldsOf w (now (t .entry)))) n ⌝ }
 {
     let mut p = 0;

@@ -11,7 +11,7 @@ ghost use Rattle.records.specs.Class.{packCounts, packTally, unpackClass};
 ghost use Rattle.model.specs.Classes.{counted};
 ghost use lib.Dec.{ltb};
 ghost use Rattle.base.specs.Tests.{pick};
-ghost use Rattle.class_counting.specs.Mirror.{chunkFailed, countsMore, asksMore, failsMore, usedIn, raisedBy};
+ghost use Rattle.class_counting.specs.Mirror.{chunkFailed, asksMore, failsMore, usedIn, raisedBy};
 ghost use Rattle.classes.specs.Mirror.{chunkAsked, chunkBack, chunkBorrowed, countUsed, countPageUsed, countBack, countPageBack, chunkRefused};
 
 fn minus(n: u32, less: u16) -> u32

@@ -1,6 +1,6 @@
 -- The claims on convert: the conversion draws the source's state.
 use mathlib.Core.Path.{_≡_, refl, sym, ap, _∙_, subst}
-use mathlib.Core.Logic.{_⊎_, inl, inr, _↔_, _≢_}
+use mathlib.Core.Logic.{_⊎_, inl, inr, _≢_}
 use mathlib.Core.Bool.{true}
 use mathlib.Core.List.{List}
 use Prim.Native.Nat.{ℕ, _+_, _*_, _/_, _≤_, _<_}
@@ -11,7 +11,7 @@ use borrow.Author.Tests.{eq-eqb, ne-eqb}
 use Rattle.base.proofs.Cases.{clash, lt?}
 use Rattle.base.proofs.AllBelow.{pick-yes, pick-no}
 use Rattle.words.specs.Word.{Bytes}
-use Rattle.records.specs.Layout.{noPage, pagesFrom, pageCount}
+use Rattle.records.specs.Layout.{pagesFrom, pageCount}
 use Rattle.records.specs.Class.{unpackClass, classAt, peakAt}
 use Rattle.answers.specs.Outcome.{Outcome, granted, refused}
 use Rattle.answers.specs.declared.Refusal.the-variants.{NotSound, WrongLength}
@@ -21,8 +21,7 @@ use Rattle.image.specs.Image.{paint, withPeaks, Same}
 use Rattle.image.proofs.Paint.{paint-ext, byte-shown}
 use Rattle.image.proofs.Peaks.{peak-shown, spare-shown, length-peaks, byte-peaks}
 use Rattle.model.specs.State.{Page, State}
-use Rattle.model.specs.View.{View, usedOf, shown}
-use Rattle.model.specs.Live.{Block}
+use Rattle.model.specs.View.{usedOf, shown}
 use Rattle.rules.specs.Drawn.{stateImage, stateFields}
 use Rattle.rules.specs.Read.{readFields}
 use Rattle.rules.specs.Bytes.{pagesIn, imageOf, fieldsOf, brokenRule, read}
@@ -33,13 +32,11 @@ use Rattle.drawing.proofs.Mapped.{mapped-has, mapped-is}
 use Rattle.drawing.proofs.Encoding.{fields-bounds, mapped-read}
 use Rattle.drawing.proofs.Peaks.{peaks-keep, peak-drawn}
 use Rattle.drawing.proofs.Laws.{none-broken, used-drawn, claims as laws-of}
-use Rattle.demands.specs.Demands.{liveIn, Turn, Allowed, played}
-use Rattle.demands.specs.Shown.{shownBy}
 use Rattle.demands.specs.Peaks.{mostUsed}
 use Rattle.demands.proofs.Calls.{view-is}
 use Rattle.demands.proofs.PeakClaims.{peak-claims}
 use Rattle.convert.specs.Convert.{convertOutcome, conversion, converted}
-use Rattle.convert.specs.Claim.{Done, Conversion, Claims}
+use Rattle.convert.specs.Claim.{Done, Claims}
 
 -- ---- refused
 

@@ -1,13 +1,13 @@
 -- The stores of the code paint the conversion, where the source is sound.
 use mathlib.Core.Path.{_≡_, refl, sym, ap, _∙_}
 use mathlib.Core.List.{List}
-use Prim.Native.Nat.{ℕ, _+_, _*_, _<_}
+use Prim.Native.Nat.{ℕ}
 use native.Mathlib.Omega.{arith}
 use Rattle.words.specs.Word.{Bytes, word, setWord}
 use Rattle.words.proofs.Laws.{word-small}
-use Rattle.records.specs.Layout.{countsPlace, tallyPlace, peakPlace, mapPlace, linksPlace}
+use Rattle.records.specs.Layout.{countsPlace, tallyPlace, mapPlace, linksPlace}
 use Rattle.records.specs.Header.{packHeader, headerAt, withHeader}
-use Rattle.records.specs.Class.{classAt, packCounts, packTally, packPeak}
+use Rattle.records.specs.Class.{classAt, packCounts, packTally}
 use Rattle.records.specs.Page.{linksAt, packLinks}
 use Rattle.records.proofs.Laws.{pack-unpack-counts, pack-unpack-tally, pack-unpack-links}
 use Rattle.image.specs.Image.{headerOf, writeAt, paint, withPeaks}

@@ -11,7 +11,7 @@ use Rattle.base.specs.Links.{headOr}
 use Rattle.base.proofs.Cases.{eq?, lt?}
 use Rattle.records.specs.Layout.{noPage}
 use Rattle.answers.specs.Outcome.{Outcome}
-use Rattle.model.specs.Classes.{chunk, lowest, classOf, pagesFor, nothing, chunkOf, pages, needOf}
+use Rattle.model.specs.Classes.{chunk, lowest, classOf, pagesFor, chunkOf, pages, needOf}
 use Rattle.model.specs.State.{Run, State, marksOf}
 use Rattle.model.specs.Runs.{fit}
 use Rattle.model.specs.Calls.{Reply, noRoom, nothingAsked, refuse, tallied, allocRun, cutPage, markChunk, allocChunk, allocFor, alloc}

@@ -1,9 +1,9 @@
 -- What holds of every slice, whatever its edition.
-use mathlib.Core.Path.{_≡_, refl, sym, ap, _∙_}
+use mathlib.Core.Path.{_≡_, sym, ap, _∙_}
 use mathlib.Core.Logic.{_⊎_, inl, inr, _≢_}
 use mathlib.Core.Bool.{true}
 use mathlib.Core.List.{List}
-use Prim.Native.Nat.{ℕ, _+_, _-_, _*_, _/_, _%_, _≤_, _<_}
+use Prim.Native.Nat.{ℕ, _+_, _-_, _/_, _%_, _≤_, _<_}
 use native.Mathlib.Omega.{arith}
 use lib.Dec.{eqb}
 use lib.ListN.{length, getD}
@@ -11,11 +11,10 @@ use borrow.Author.Tests.{eq-eqb, ne-eqb, lt-ltb, le-ltb, le-leb}
 use Rattle.base.specs.Tests.{pick}
 use Rattle.base.proofs.Cases.{decided, eq?, lt?}
 use Rattle.base.proofs.AllBelow.{pick-yes, pick-no}
-use Rattle.words.specs.Word.{Bytes, halfAt, wordAt, word}
+use Rattle.words.specs.Word.{Bytes, halfAt, wordAt}
 use Rattle.words.proofs.Laws.{word-in}
 use Rattle.records.specs.Header.{unpackHeader, headerAt}
-use Rattle.answers.specs.Outcome.{Outcome, refused}
-use Rattle.answers.specs.declared.Refusal.the-variants.{NotSound}
+use Rattle.answers.specs.Outcome.{Outcome}
 use Rattle.model.specs.Calls.{Call}
 use Rattle.format.specs.Format.{shortest, tooLong, formatOutcome, formatted}
 use Rattle.format.proofs.Laws.{short-slice, long-slice, fit-outcome}
@@ -23,7 +22,7 @@ use Rattle.rules.specs.Bytes.{rule1, brokenRule}
 use Rattle.rules.proofs.Rule1.{rule1-says}
 use Rattle.drawing.proofs.Laws.{none-broken, claims as laws-of}
 use Rattle.demands.specs.Calls.{after}
-use Rattle.demands.specs.Editions.{widthOf, formatAsOutcome, formattedAs, OfEdition, EditionClaims}
+use Rattle.demands.specs.Editions.{widthOf, formatAsOutcome, formattedAs, EditionClaims}
 use Rattle.demands.proofs.Calls.{after-sound, demand1}
 use Rattle.demands.proofs.Demands.{all-demands}
 use Rattle.demands.proofs.PeakClaims.{peak-claims}

@@ -19,7 +19,7 @@ use Rattle.model.specs.Examples.{Question, formats, sized, replies, tallyAfter,
 use Rattle.model.proofs.Claim.{claims}
 use Rattle.format.specs.Format.{shortest, tooLong, formatOutcome, formatted}
 use Rattle.rules.specs.Read.{tallyOf, readFields}
-use Rattle.rules.specs.Bytes.{pagesIn, imageOf, fieldsOf, brokenRule, read}
+use Rattle.rules.specs.Bytes.{imageOf, fieldsOf, brokenRule, read}
 use Rattle.drawing.proofs.Laws.{claims as laws-of}
 use Rattle.demands.specs.Calls.{outcome, after}
 use Rattle.demands.specs.Examples.{answersOn, sliceAfter, want, outcomes, tally, runs, seen, asSeen, Accepted, ExamplesOnBytes}

@@ -1,5 +1,5 @@
 -- The peak of a class over calls.
-use mathlib.Core.Path.{_≡_, refl, sym, ap, _∙_, subst}
+use mathlib.Core.Path.{_≡_, refl, sym, ap, _∙_}
 use mathlib.Core.List.{List, [], _∷_}
 use Prim.Native.Nat.{ℕ, _≤_, _<_}
 use native.Mathlib.Omega.{arith}
@@ -14,13 +14,13 @@ use Rattle.image.specs.Image.{withPeaks}
 use Rattle.image.proofs.Peaks.{peak-shown}
 use Rattle.format.specs.Format.{shortest, tooLong, formatted}
 use Rattle.rules.specs.Bytes.{pagesIn, brokenRule, read}
-use Rattle.drawing.specs.Draw.{draw, larger, raised}
+use Rattle.drawing.specs.Draw.{larger, raised}
 use Rattle.drawing.proofs.Noise.{peak-kept}
 use Rattle.drawing.proofs.Peaks.{larger-left, larger-right, peak-drawn}
 use Rattle.drawing.proofs.Laws.{used-drawn, peak-raised, claims as laws-of}
 use Rattle.demands.specs.Calls.{cleared, redrawn, after}
-use Rattle.demands.specs.Demands.{Turn, Allowed, played, Rewritten}
-use Rattle.demands.specs.Peaks.{usedAfter, mostUsed, Peaking, PeakClaims}
+use Rattle.demands.specs.Demands.{Turn, Allowed, played}
+use Rattle.demands.specs.Peaks.{usedAfter, mostUsed, PeakClaims}
 use Rattle.demands.proofs.Calls.{under-bytes, drawn-after, after-sound, demand1, C, G, H}
 use Rattle.demands.proofs.Peaks.{peak-cleared}
 

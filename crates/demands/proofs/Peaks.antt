@@ -10,13 +10,12 @@ use borrow.Author.Tests.{lt-ltb, le-ltb}
 use Rattle.base.specs.Tests.{pick}
 use Rattle.base.specs.Functions.{upd}
 use Rattle.base.proofs.Cases.{eq?, lt?, never}
-use Rattle.base.proofs.AllBelow.{pick-yes, pick-no}
 use Rattle.words.specs.Word.{Bytes, word}
 use Rattle.words.proofs.Laws.{words, here?, word-in, word-out}
-use Rattle.records.specs.Layout.{peakPlace, mapPlace, pagesFrom}
-use Rattle.records.specs.Class.{classAt, packPeak, peakAt, peakSpare, withPeak}
+use Rattle.records.specs.Layout.{peakPlace}
+use Rattle.records.specs.Class.{packPeak, peakAt, peakSpare, withPeak}
 use Rattle.maps.specs.Bitmap.{withMark}
-use Rattle.maps.proofs.Marks.{length-withMark, withMark-outside}
+use Rattle.maps.proofs.Marks.{withMark-outside}
 use Rattle.image.proofs.Places.{class-below}
 use Rattle.image.proofs.Peaks.{no-peaks}
 use Rattle.model.specs.Classes.{chunk, hasTaken, startsChunk, Need, chunkOf, pages, needOf}

@@ -1,11 +1,9 @@
 -- The peaks beneath a drawing.
 use mathlib.Core.Path.{_≡_, refl, sym, ap, _∙_}
 use mathlib.Core.Logic.{_⊎_, inl, inr, ⊎-elim, _≢_}
-use mathlib.Core.Bool.{true}
 use mathlib.Core.List.{List}
-use Prim.Native.Nat.{ℕ, _+_, _*_, _/_, _%_, _≤_, _<_}
+use Prim.Native.Nat.{ℕ, _+_, _*_, _/_, _≤_, _<_}
 use native.Mathlib.Omega.{arith}
-use lib.Dec.{leb}
 use lib.ListN.{length, getD}
 use lib.Seq.{ext-getD}
 use borrow.Author.Tests.{le-leb, lt-leb}
@@ -23,12 +21,11 @@ use Rattle.image.specs.Image.{withPeaks}
 use Rattle.image.proofs.Places.{class-apart, class-below}
 use Rattle.image.proofs.Write.{write-ext, set-write}
 use Rattle.image.proofs.Peaks.{no-peaks, peaks-written, peak-shown, spare-shown, length-peaks, byte-peaks, peak-painted, paint-peak}
-use Rattle.rules.specs.Bytes.{pagesIn}
 use Rattle.drawing.specs.Draw.{larger, mapped, draw, raised}
 use Rattle.drawing.specs.Claim.{Peaked}
 use Rattle.drawing.proofs.Records.{write-back, write-keeps}
 use Rattle.drawing.proofs.Mapped.{length-mapped, mapped-records, mapped-alike}
-use Rattle.drawing.proofs.Over.{Alike, setWord-alike}
+use Rattle.drawing.proofs.Over.{setWord-alike}
 
 -- ---- the larger of two
 

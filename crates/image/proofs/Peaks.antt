@@ -1,15 +1,14 @@
 -- The peaks that lie beneath an image: what writing them leaves, and what painting leaves of them.
-use mathlib.Core.Path.{_≡_, refl, sym, ap, _∙_}
-use mathlib.Core.Logic.{_⊎_, inl, inr, _≢_}
+use mathlib.Core.Path.{_≡_, refl, ap, _∙_}
+use mathlib.Core.Logic.{_⊎_, inl, inr}
 use mathlib.Core.Bool.{Bool, true, false}
 use mathlib.Core.List.{List}
-use Prim.Native.Nat.{ℕ, _+_, _*_, _/_, _%_, _≤_, _<_}
+use Prim.Native.Nat.{ℕ, _+_, _*_, _/_, _≤_, _<_}
 use native.Mathlib.Omega.{arith}
 use lib.Dec.{ltb}
 use lib.ListN.{length, getD}
 use borrow.Author.Tests.{lt-ltb, le-ltb}
 use Rattle.base.specs.Tests.{pick}
-use Rattle.base.specs.Functions.{upd}
 use Rattle.base.proofs.AllBelow.{pick-yes, pick-no}
 use Rattle.base.proofs.Cases.{lt?}
 use Rattle.words.specs.Word.{word, setWord}

@@ -1,7 +1,7 @@
 -- Another first page changes one field of the word of counts, and no other word.
 use mathlib.Core.Path.{_≡_, refl, sym, ap, _∙_}
 use mathlib.Core.List.{List}
-use Prim.Native.Nat.{ℕ, _+_, _*_, _/_, _%_, _<_}
+use Prim.Native.Nat.{ℕ, _+_, _*_, _%_, _<_}
 use native.Mathlib.Omega.{arith}
 use Rattle.words.specs.Word.{Bytes, word, setWord}
 use Rattle.words.proofs.Laws.{word-small, word-set-other, setWord-back, setWord-keeps}

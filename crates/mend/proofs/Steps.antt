@@ -1,9 +1,9 @@
 -- The steps of the loops, what the counters tell, and what the tests let pass.
 use mathlib.Core.Path.{_≡_, refl, sym, ap, _∙_, subst}
-use mathlib.Core.Logic.{_≢_, _⊎_, inl, inr}
+use mathlib.Core.Logic.{_≢_}
 use mathlib.Core.Bool.{Bool, true, false, not}
 use mathlib.Core.List.{List}
-use Prim.Native.Nat.{ℕ, _+_, _*_, _/_, _%_, _≤_, _<_}
+use Prim.Native.Nat.{ℕ, _+_, _*_, _%_, _≤_, _<_}
 use native.Mathlib.Numerals.{add-one}
 use native.Mathlib.Omega.{arith}
 use native.Mathlib.Nat.{mul-le-mul-left}
@@ -12,23 +12,22 @@ use lib.Seq.{ext-getD}
 use borrow.Author.Needs.{needs}
 use borrow.Author.Tests.{eq-eqb, ne-eqb, not-true, not-false}
 use Rattle.base.specs.Tests.{pick}
-use Rattle.base.proofs.AllBelow.{pick-yes, pick-no}
 use Rattle.words.specs.Word.{Bytes, setWord}
-use Rattle.records.specs.Layout.{countsPlace, peakPlace, linksPlace}
+use Rattle.records.specs.Layout.{countsPlace}
 use Rattle.records.specs.declared.ClassRecord.{ClassRecord}
 use Rattle.records.specs.declared.Links.{Links}
-use Rattle.records.specs.Class.{packCounts, packPeak, peakAt, withPeak}
+use Rattle.records.specs.Class.{packCounts, peakAt, withPeak}
 use Rattle.records.specs.Page.{withLinks}
-use Rattle.answers.specs.Outcome.{Outcome, granted, refused}
+use Rattle.answers.specs.Outcome.{granted, refused}
 use Rattle.answers.specs.declared.Refusal.the-variants.{WrongLength, BeyondMending}
 use Rattle.model.specs.View.{usedOf}
-use Rattle.model.specs.Classes.{chunks, counted}
+use Rattle.model.specs.Classes.{counted}
 use Rattle.model.specs.State.{isIdle}
 use Rattle.classes.proofs.Numbers.{chunks-512}
 use Rattle.map_count.proofs.Counts.{count-le}
 use Rattle.copying.specs.Lay.{lay}
 use Rattle.copying.proofs.Laws.{length-lay, lay-inside}
-use Rattle.image.specs.Image.{writeAt, withPeaks}
+use Rattle.image.specs.Image.{writeAt}
 use Rattle.image.proofs.Peaks.{no-peaks, peaks-written}
 use Rattle.rules.specs.Fields.{Fields, pageAt}
 use Rattle.rules.specs.Read.{readFields}
@@ -38,7 +37,7 @@ use Rattle.drawing.specs.Draw.{larger}
 use Rattle.validate_pages.specs.Mirror.{Counted}
 use Rattle.validate_totals.specs.Mirror.{Scanned}
 use Rattle.validate_totals.proofs.Totals.{used-is, idle-is}
-use Rattle.mending.specs.Mending.{shaped, mendedCopy}
+use Rattle.mending.specs.Mending.{shaped}
 use Rattle.mending.specs.Checked.{mendOutcome, mended}
 use Rattle.mending.specs.Mirror.{classAnew, pageAnew, countsWritten, linksWritten, peaksWritten, written}
 use Rattle.mending.proofs.Painted.{copy-written}

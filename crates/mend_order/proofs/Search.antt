@@ -4,6 +4,7 @@ use mathlib.Core.Bool.{Bool, true, false}
 use Prim.Native.Nat.{ℕ, zero, suc, _+_, _-_, _≤_, _<_}
 use native.Mathlib.Omega.{arith}
 use Rattle.base.proofs.AllBelow.{pick-yes, pick-no}
+use Rattle.records.specs.Layout.{noPage}
 use Rattle.mending.specs.Mirror.{firstFrom, lastBelow}
 
 module _ (q : ℕ → Bool) (x a : ℕ) (u : Bool) (e : u ≡ q a) where
@@ -19,7 +20,7 @@ module _ (q : ℕ → Bool) (x a : ℕ) (u : Bool) (e : u ≡ q a) where
       let z : k ≡ suc k - 1 = omega arith in
       i ∙ pick-no _ _ _ (sym e ∙ t) ∙ ap (firstFrom q (a + 1)) z
 
-pub none-first : (q : ℕ → Bool) (x a k : ℕ) → k ≤ 0 → x ≡ firstFrom q a k → 65535 ≡ x
+pub none-first : (q : ℕ → Bool) (x a k : ℕ) → k ≤ 0 → x ≡ firstFrom q a k → noPage ≡ x
 unfolding firstFrom
 none-first q x a zero h i = sym i
 none-first q x a (suc k) h i = absurd (omega arith)
@@ -39,7 +40,7 @@ module _ (q : ℕ → Bool) (x : ℕ) (u : Bool) where
       let z : suc p - 1 ≡ p = omega arith in
       i ∙ pick-no _ _ _ (ap q (sym z) ∙ sym e ∙ t) ∙ ap (lastBelow q) (sym z)
 
-pub none-last : (q : ℕ → Bool) (x p : ℕ) → p ≤ 0 → x ≡ lastBelow q p → 65535 ≡ x
+pub none-last : (q : ℕ → Bool) (x p : ℕ) → p ≤ 0 → x ≡ lastBelow q p → noPage ≡ x
 unfolding lastBelow
 none-last q x zero h i = sym i
 none-last q x (suc p) h i = absurd (omega arith)

@@ -18,7 +18,7 @@ ghost use Rattle.mending.specs.Mirror.{firstFrom, lastBelow, endsRun, nextAnew,
 
 // The code of `validate_walk` in a function of its own, so that validation's is inlined.
 fn on_list(pool: &[u8], w: u8, n: usize, list: u8, p: PageNumber) -> bool
-    requires { ⌜ (n ≡ pagesIn w (now pool)) × (n ≤ 65535) × (shape (fieldsOf w (now pool)) n ≡ true) × (list ≤ 9) ⌝ }
+    requires { ⌜ (n ≡ pagesIn w (now pool)) × (n ≤ noPage) × (shape (fieldsOf w (now pool)) n ≡ true) × (list ≤ 9) ⌝ }
     ensures { λ r. ⌜ r ≡ belongs (fieldsOf w (now (pool .entry))) n list (p .0) ⌝ }
 {
     if list == 0 {
@@ -29,7 +29,7 @@ fn on_list(pool: &[u8], w: u8, n: usize, list: u8, p: PageNumber) -> bool
 
 // The first of the k pages from a on that belongs on the list.
 pub fn first_from(pool: &[u8], w: u8, n: usize, list: u8, a: u16, k: usize) -> PageNumber
-    requires { ⌜ (n ≡ pagesIn w (now pool)) × (n ≤ 65535) × (shape (fieldsOf w (now pool)) n ≡ true) × (list ≤ 9) × (a + k ≤ 65535) ⌝ }
+    requires { ⌜ (n ≡ pagesIn w (now pool)) × (n ≤ noPage) × (shape (fieldsOf w (now pool)) n ≡ true) × (list ≤ 9) × (a + k ≤ noPage) ⌝ }
     ensures { λ r. ⌜ r .0 ≡ firstFrom (belongs (fieldsOf w (now (pool .entry))) n list) a k ⌝ }
 {
     let mut at = a;
@@ -46,7 +46,7 @@ pub fn first_from(pool: &[u8], w: u8, n: usize, list: u8, a: u16, k: usize) -> P
 
 // The last page below p that belongs on the list.
 fn last_below(pool: &[u8], w: u8, n: usize, list: u8, p: u16) -> PageNumber
-    requires { ⌜ (n ≡ pagesIn w (now pool)) × (n ≤ 65535) × (shape (fieldsOf w (now pool)) n ≡ true) × (list ≤ 9) ⌝ }
+    requires { ⌜ (n ≡ pagesIn w (now pool)) × (n ≤ noPage) × (shape (fieldsOf w (now pool)) n ≡ true) × (list ≤ 9) ⌝ }
     ensures { λ r. ⌜ r .0 ≡ lastBelow (belongs (fieldsOf w (now (pool .entry))) n list) p ⌝ }
 {
     let mut at = p;

@@ -29,7 +29,7 @@ use Rattle.rules.proofs.Rule1.{rule1-says}
 use Rattle.rules.proofs.Shape.{shape-says}
 use Rattle.rules.proofs.Well.{table-ok, tally-ok}
 use Rattle.drawing.specs.Draw.{inMap, mappedByte, mapped, draw, larger, raised}
-use Rattle.drawing.specs.Claim.{Fitting, Peaked, Laws}
+use Rattle.drawing.specs.Claim.{Fitting, Laws}
 use Rattle.drawing.proofs.Encoding.{fields-bounds, mapped-read}
 use Rattle.drawing.proofs.Peaks.{drawn-peak, peak-drawn}
 use Rattle.drawing.proofs.Laws.{none-broken, peak-raised, claims}

@@ -7,7 +7,7 @@ use Rattle.words.specs.Word.{Bytes}
 use Rattle.records.specs.Layout.{pageCount}
 use Rattle.model.specs.WellFormed.{TableOk}
 use Rattle.model.specs.Calls.{Call}
-use Rattle.model.specs.Live.{Block, LiveSet, blocks}
+use Rattle.model.specs.Live.{LiveSet, blocks}
 use Rattle.model.proofs.LiveSets.{blocks-set}
 use Rattle.rules.specs.Bytes.{pagesIn, brokenRule, read}
 use Rattle.drawing.specs.Claim.{Fitting}

@@ -9,7 +9,7 @@ use Rattle.model.specs.Classes.{chunk, chunks, own, chunkOf, pages, need
 use Rattle.model.specs.State.{Page, idle, slab, State, isOpen}
 use Rattle.model.specs.WellFormed.{Stretch, WellFormed}
 use Rattle.model.specs.Calls.{Call, Alloc, Free, Answer, at, freed, no, Reply, noRoom, nothingAsked, refuse, fresh, tallied, step}
-use Rattle.model.specs.Live.{Block, small, large, offset, extent, Disjoint, Off, Live, blocks, BlocksPlaced, blockFor, LiveSet, World, runFrom, begin}
+use Rattle.model.specs.Live.{Block, small, large, offset, extent, Disjoint, Off, Live, BlocksPlaced, blockFor, LiveSet, World, runFrom, begin}
 use Rattle.model.specs.Effects.{Effect, SlabsFrom, Stays, without}
 use Rattle.model.specs.View.{vacant, class, runOf, within, shown}
 use Rattle.model.specs.Expected.{covers, freePage, expected}

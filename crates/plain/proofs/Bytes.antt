@@ -1,12 +1,12 @@
 -- Marks of chunks as bytes: one byte written, and a new page.
-use mathlib.Core.Path.{_≡_, refl, sym, ap, _∙_, fun-ext}
+use mathlib.Core.Path.{_≡_, refl, sym, _∙_, fun-ext}
 use mathlib.Core.Logic.{_⊎_, inl, inr, _≢_}
-use mathlib.Core.Bool.{Bool, true, false, cond, not}
-use mathlib.Core.List.{List, [], _∷_}
-use Prim.Native.Nat.{ℕ, zero, suc, _+_, _-_, _*_, _/_, _%_, _≤_, _<_}
+use mathlib.Core.Bool.{false, not}
+use mathlib.Core.List.{List}
+use Prim.Native.Nat.{ℕ, _+_, _-_, _*_, _/_, _%_, _≤_, _<_}
 use native.Mathlib.Omega.{arith}
-use lib.Dec.{eqb, leb, ltb}
-use lib.ListN.{length, getD, set}
+use lib.Dec.{eqb, leb}
+use lib.ListN.{length, getD}
 use lib.Seq.{getD-set-same, getD-set-other}
 use borrow.Author.Tests.{lt-ltb, le-ltb, le-leb, lt-leb, eq-eqb, ne-eqb}
 use Rattle.base.specs.Tests.{pick}
@@ -15,7 +15,6 @@ use Rattle.base.proofs.Cases.{eq?, lt?}
 use Rattle.base.proofs.Functions.{upd-same, upd-other}
 use Rattle.model.specs.Classes.{chunks, own, newMarks}
 use Rattle.model.proofs.Classes.{own-few, small-chunks, large-chunks}
-use Rattle.plain.specs.Arrays.{remade}
 use Rattle.plain.specs.Plain.{markOf}
 use Rattle.plain.specs.Chunks.{newByte, newBytes, withByte}
 use Rattle.plain.proofs.Loops.{getD-remade}

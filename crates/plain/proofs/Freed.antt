@@ -1,24 +1,22 @@
 -- Free on a plain state answers and leaves what the model's free does.
-use mathlib.Core.Path.{_≡_, refl, sym, ap, _∙_}
+use mathlib.Core.Path.{_≡_, refl, ap, _∙_}
 use mathlib.Core.Logic.{_⊎_, inl, inr, _≢_}
-use mathlib.Core.Bool.{Bool, true, false, cond, not}
-use mathlib.Core.List.{List, [], _∷_}
-use Prim.Native.Nat.{ℕ, zero, suc, _+_, _-_, _*_, _/_, _%_, _≤_, _<_}
+use mathlib.Core.Bool.{Bool, true, false}
+use mathlib.Core.List.{List}
+use Prim.Native.Nat.{ℕ, _+_, _-_, _*_, _/_, _%_, _≤_, _<_}
 use native.Mathlib.Omega.{arith}
-use lib.Dec.{eqb, leb, ltb}
-use lib.ListN.{length, getD}
-use borrow.Author.Tests.{lt-ltb, le-ltb, eq-eqb, ne-eqb, eqb-true, eqb-false}
+use lib.Dec.{eqb}
+use borrow.Author.Tests.{lt-ltb, le-ltb, ne-eqb}
 use Rattle.base.specs.Tests.{pick}
 use Rattle.base.specs.Functions.{upd}
 use Rattle.base.proofs.Cases.{never, clash, lt?, eq?}
-use Rattle.model.specs.Classes.{chunk, chunks, hasClear, hasTaken, startsChunk}
-use Rattle.model.specs.State.{Page, idle, slab, taken, inside, edge, State}
-use Rattle.model.specs.Calls.{Answer, at, freed, no, Reply, outside, notTaken, notAStart, refuse, release, keepPage, dropPage, freeChunk, freeAt, free}
+use Rattle.model.specs.Classes.{chunk, chunks, hasTaken, startsChunk}
+use Rattle.model.specs.State.{idle, slab, taken, inside, edge}
+use Rattle.model.specs.Calls.{freed, outside, notTaken, notAStart, refuse, freeChunk, freeAt, free}
 use Rattle.model.specs.WellFormed.{WellFormed}
 use Rattle.model.proofs.Table.{in-table, taken-ok}
-use Rattle.plain.specs.Table.{wrap}
-use Rattle.plain.specs.Plain.{Plain, Served, Shaped, entryAt, markOf, pageOf, pageAt, readPlain}
-use Rattle.plain.specs.Pages.{pagesFreed, refused, granted}
+use Rattle.plain.specs.Plain.{Plain, Shaped, entryAt, markOf, pageOf, pageAt, readPlain}
+use Rattle.plain.specs.Pages.{refused, granted}
 use Rattle.plain.specs.Chunks.{withByte, chunkFreed}
 use Rattle.plain.specs.Engine.{freeAnswer, freeMarked, freeChunkAt, freeChunkBytes, freeRunAt, freeKind, freeKindBytes, freeIn, freeInBytes, plainFree, plainFreeBytes}
 use Rattle.plain.proofs.Shown.{page-in, page-past}

@@ -2,39 +2,38 @@
 use mathlib.Core.Path.{_≡_, refl, sym, ap, _∙_, fun-ext}
 use mathlib.Core.Logic.{_⊎_, inl, inr, _≢_}
 use mathlib.Core.Bool.{Bool, true, false, cond, not}
-use mathlib.Core.Option.{Option, none, some}
+use mathlib.Core.Option.{some}
 use mathlib.Core.List.{List, [], _∷_}
-use Prim.Native.Nat.{ℕ, zero, suc, _+_, _-_, _≤_, _<_}
+use Prim.Native.Nat.{ℕ, _+_, _-_, _≤_, _<_}
 use native.Mathlib.Omega.{arith}
-use lib.Dec.{eqb, leb, ltb}
-use lib.ListN.{length, getD, set}
+use lib.Dec.{eqb}
+use lib.ListN.{length, getD}
 use lib.Seq.{getD-set-same, getD-set-other}
-use borrow.Author.Tests.{lt-ltb, le-ltb, eq-eqb, ne-eqb}
+use borrow.Author.Tests.{lt-ltb, eq-eqb, ne-eqb}
 use Rattle.base.specs.Tests.{pick}
-use Rattle.base.specs.Functions.{upd, fill}
+use Rattle.base.specs.Functions.{upd}
 use Rattle.base.specs.Lists.{Mem, NoDup, keep}
 use Rattle.base.specs.Links.{others}
-use Rattle.base.proofs.Cases.{never, lt?, eq?, Out}
+use Rattle.base.proofs.Cases.{never, eq?}
 use Rattle.base.proofs.Functions.{upd-same, upd-other}
-use Rattle.base.proofs.Lists.{keep-mem, mem-keep, mem-cast}
-use Rattle.model.specs.Classes.{chunks, own, lowest, hasClear, newMarks}
-use Rattle.model.specs.State.{Page, idle, slab, taken, inside, edge, Run, State, marksOf}
+use Rattle.base.proofs.Lists.{mem-cast}
+use Rattle.model.specs.Classes.{chunks, lowest, hasClear, newMarks}
+use Rattle.model.specs.State.{idle, slab, Run}
 use Rattle.model.specs.Runs.{fit, carve}
-use Rattle.model.specs.Calls.{asked, tallied, cutPage, markChunk, relisted, keepPage, dropPage, release}
+use Rattle.model.specs.Calls.{asked, tallied, cutPage, markChunk}
 use Rattle.model.specs.WellFormed.{WellFormed}
-use Rattle.model.proofs.Classes.{lowest-clear, own-few}
+use Rattle.model.proofs.Classes.{lowest-clear}
 use Rattle.model.proofs.Table.{slab-ok}
 use Rattle.model.proofs.Occupy.{were-idle, in-size}
 use Rattle.plain.specs.declared.PageEntry.{PageEntry}
-use Rattle.plain.specs.Table.{vacant, runOf, readRuns, firstFit, runAt, carvedAt}
-use Rattle.plain.specs.Plain.{Plain, Shaped, freeEntry, entryAt, markOf, pageOf, pageAt, listed, listOf, noCounts, tallyOf, readPlain}
-use Rattle.plain.specs.Pages.{pagesFreed}
-use Rattle.plain.specs.Chunks.{newBytes, withByte, listedFirst, unlisted, countAsk, chunkRefused, pageCut, chunkTaken, chunkBack, pageDropped}
+use Rattle.plain.specs.Table.{vacant, runOf, readRuns, firstFit, runAt}
+use Rattle.plain.specs.Plain.{Plain, Shaped, freeEntry, entryAt, markOf, pageAt, listed, listOf, noCounts, tallyOf, readPlain}
+use Rattle.plain.specs.Chunks.{newBytes, withByte, chunkRefused, pageCut, chunkTaken}
 use Rattle.plain.proofs.Table.{fit-read, carve-read}
 use Rattle.plain.proofs.Shown.{keep-same, small-runs}
-use Rattle.plain.proofs.Ready.{unlisted-read, listed-first, HasGap, has-gap}
+use Rattle.plain.proofs.Ready.{unlisted-read, listed-first, has-gap}
 use Rattle.plain.proofs.Bytes.{chunks-most, marked-one, marked-other, new-marks, new-other}
-use Rattle.plain.proofs.Marked.{ClassPage, class-page, class-shown, page-alike, keep-others, keep-head, keep-swap, on-list, on-own, list-listed, listed-once, ask-counted, failure-counted}
+use Rattle.plain.proofs.Marked.{ClassPage, class-shown, page-alike, keep-others, keep-head, keep-swap, on-list, on-own, listed-once, ask-counted, failure-counted}
 
 -- ---- a chunk refused
 

@@ -1,29 +1,28 @@
 -- Class pages, class lists and tallies of a plain state.
 use mathlib.Core.Path.{_≡_, refl, sym, ap, _∙_, fun-ext}
 use mathlib.Core.Logic.{_⊎_, inl, inr, _≢_}
-use mathlib.Core.Bool.{Bool, true, false, cond, not}
+use mathlib.Core.Bool.{Bool, true, false, cond}
 use mathlib.Core.List.{List, [], _∷_}
-use Prim.Native.Nat.{ℕ, zero, suc, _+_, _-_, _≤_, _<_}
-use native.Mathlib.Omega.{arith}
-use lib.Dec.{eqb, leb, ltb}
+use Prim.Native.Nat.{ℕ, _-_, _≤_, _<_}
+use lib.Dec.{eqb}
 use lib.ListN.{length, getD, set}
 use lib.Seq.{getD-set-same, getD-set-other}
-use borrow.Author.Tests.{lt-ltb, le-ltb, eq-eqb, ne-eqb, eqb-true, eqb-false}
+use borrow.Author.Tests.{eq-eqb, ne-eqb, eqb-true}
 use Rattle.base.specs.Tests.{pick}
 use Rattle.base.specs.Functions.{upd}
 use Rattle.base.specs.Lists.{Mem, NoDup, keep}
 use Rattle.base.specs.Links.{others}
 use Rattle.base.proofs.Cases.{never, lt?, eq?}
 use Rattle.base.proofs.Functions.{upd-same, upd-other}
-use Rattle.base.proofs.Lists.{keep-mem, mem-keep, mem-cast}
+use Rattle.base.proofs.Lists.{keep-mem, mem-keep}
 use Rattle.model.specs.Classes.{hasClear}
-use Rattle.model.specs.State.{Page, idle, slab, taken, inside, edge, Tally, State}
-use Rattle.model.specs.Calls.{asked, failed, raise}
+use Rattle.model.specs.State.{idle, slab, taken, inside}
+use Rattle.model.specs.Calls.{asked, failed}
 use Rattle.model.specs.WellFormed.{WellFormed}
 use Rattle.model.proofs.Lists.{open-is}
 use Rattle.plain.specs.declared.PageEntry.{PageEntry}
 use Rattle.plain.specs.declared.Counts.{Counts}
-use Rattle.plain.specs.Plain.{Plain, Shaped, entryAt, markOf, pageOf, pageAt, listed, listOf, noCounts, tallyOf, readPlain}
+use Rattle.plain.specs.Plain.{Plain, entryAt, markOf, pageOf, pageAt, listed, listOf, noCounts, tallyOf, readPlain}
 use Rattle.plain.specs.Chunks.{askedCounts, failedCounts, countAsk, countFailure}
 use Rattle.plain.proofs.Shown.{page-in, page-past}
 

@@ -1,20 +1,18 @@
 -- Pages taken and released on a plain state: what it then shows is what the model's call leaves.
 use mathlib.Core.Path.{_≡_, refl, sym, ap, _∙_, fun-ext}
 use mathlib.Core.Logic.{_⊎_, inl, inr, _≢_}
-use mathlib.Core.Bool.{Bool, true, false, cond, not}
-use mathlib.Core.Option.{Option, none, some}
-use mathlib.Core.List.{List, [], _∷_}
-use Prim.Native.Nat.{ℕ, zero, suc, _+_, _-_, _≤_, _<_}
+use mathlib.Core.Bool.{Bool}
+use mathlib.Core.Option.{some}
+use mathlib.Core.List.{List}
+use Prim.Native.Nat.{ℕ, _+_, _-_, _≤_, _<_}
 use native.Mathlib.Omega.{arith}
-use lib.Dec.{eqb, leb, ltb}
 use lib.ListN.{length, getD}
 use borrow.Author.Tests.{lt-ltb, le-ltb, le-leb, lt-leb, eq-eqb, ne-eqb}
 use Rattle.base.specs.Tests.{pick}
 use Rattle.base.specs.Functions.{upd, fill}
-use Rattle.base.specs.Lists.{Mem, keep}
 use Rattle.base.proofs.Cases.{never, lt?, eq?, in?, Out}
 use Rattle.base.proofs.Functions.{upd-same, upd-other, fill-in, fill-out}
-use Rattle.model.specs.State.{Page, idle, slab, taken, inside, edge, Run, State}
+use Rattle.model.specs.State.{idle, slab, taken, inside, Run}
 use Rattle.model.specs.Runs.{fit, carve, end, endsAt, startsAt, joinRuns}
 use Rattle.model.specs.Calls.{allocRun, release}
 use Rattle.model.specs.WellFormed.{WellFormed}
@@ -22,7 +20,6 @@ use Rattle.model.proofs.Table.{not-idle}
 use Rattle.model.proofs.Runs.{Keyed, keyed}
 use Rattle.model.proofs.Occupy.{were-idle, in-size}
 use Rattle.plain.specs.declared.PageEntry.{PageEntry}
-use Rattle.plain.specs.Arrays.{remade}
 use Rattle.plain.specs.Table.{vacant, readRuns, runOf, firstFit, runAt, carvedAt, released}
 use Rattle.plain.specs.Plain.{Plain, Shaped, freeEntry, entryAt, markOf, pageOf, pageAt, listOf, readPlain}
 use Rattle.plain.specs.Pages.{takenAt, freedAt, runTaken, pagesFreed}

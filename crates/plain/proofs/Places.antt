@@ -1,12 +1,12 @@
 -- A table of 12 entries has an empty place while a page of the 12 is not free.
-use mathlib.Core.Path.{_≡_, refl, sym, ap, _∙_}
+use mathlib.Core.Path.{_≡_, refl, sym, ap}
 use mathlib.Core.Logic.{_⊎_, inl, inr, _≢_}
 use mathlib.Core.Bool.{Bool, true, false}
 use mathlib.Core.List.{List, [], _∷_}
-use Prim.Native.Nat.{ℕ, zero, suc, _+_, _-_, _≤_, _<_}
+use Prim.Native.Nat.{ℕ, suc, _+_, _-_, _≤_, _<_}
 use native.Mathlib.Omega.{arith}
-use lib.ListN.{length, getD}
-use Rattle.base.specs.Count.{sum, bit, count}
+use lib.ListN.{length}
+use Rattle.base.specs.Count.{sum, count}
 use Rattle.base.specs.Lists.{Mem, NoDup}
 use Rattle.base.proofs.Cases.{eq?, clash}
 use Rattle.base.proofs.Lists.{mem-cast}
@@ -15,8 +15,8 @@ use Rattle.model.specs.State.{Run}
 use Rattle.model.specs.WellFormed.{Stretch, RunsOk}
 use Rattle.model.proofs.Runs.{same-run}
 use Rattle.plain.specs.declared.Extent.{Extent}
-use Rattle.plain.specs.Table.{vacant, readRuns}
-use Rattle.plain.proofs.Table.{HasPlace, read-none, read-vacant, read-run}
+use Rattle.plain.specs.Table.{readRuns}
+use Rattle.plain.proofs.Table.{HasPlace, read-none, read-run}
 
 -- a table without an empty place shows as many runs as it has entries
 pub place? : (t : List Extent) → HasPlace t ⊎ (length (readRuns t) ≡ length t)

@@ -1,19 +1,19 @@
 -- The list of pages with a free chunk: a new head, and a page that leaves.
-use mathlib.Core.Path.{_≡_, refl, sym, ap, _∙_}
+use mathlib.Core.Path.{_≡_, refl, ap, _∙_}
 use mathlib.Core.Logic.{_⊎_, inl, inr, _≢_}
-use mathlib.Core.Bool.{Bool, true, false, cond, not}
+use mathlib.Core.Bool.{Bool, true, false}
 use mathlib.Core.List.{List, [], _∷_}
-use Prim.Native.Nat.{ℕ, zero, suc, _+_, _-_, _≤_, _<_}
+use Prim.Native.Nat.{ℕ, zero, suc, _-_, _≤_, _<_}
 use native.Mathlib.Omega.{arith}
-use lib.Dec.{eqb, leb, ltb}
+use lib.Dec.{eqb, ltb}
 use lib.ListN.{length, getD}
 use borrow.Author.Tests.{lt-ltb, le-ltb, le-leb, lt-leb, eq-eqb, ne-eqb, ltb-true}
 use Rattle.base.specs.Tests.{pick}
-use Rattle.base.specs.Count.{sum, bit, count}
+use Rattle.base.specs.Count.{sum, count}
 use Rattle.base.specs.Lists.{Mem, NoDup, keep}
 use Rattle.base.specs.Links.{others}
 use Rattle.base.proofs.Cases.{eq?, lt?}
-use Rattle.base.proofs.Lists.{keep-mem, mem-keep}
+use Rattle.base.proofs.Lists.{keep-mem}
 use Rattle.base.proofs.Pigeonhole.{length-count}
 use Rattle.plain.specs.Arrays.{remade, pushed}
 use Rattle.plain.specs.Plain.{listed}

@@ -1,15 +1,13 @@
 -- The tables and the slice keep their lengths.
-use mathlib.Core.Path.{_≡_, refl, sym, ap, _∙_}
+use mathlib.Core.Path.{_≡_, refl, ap, _∙_}
 use mathlib.Core.Bool.{Bool, true, false}
 use mathlib.Core.List.{List, [], _∷_}
-use Prim.Native.Nat.{ℕ, suc, _/_, _%_}
-use lib.Dec.{eqb, leb, ltb}
-use lib.ListN.{length, set, length-set}
+use Prim.Native.Nat.{ℕ, suc}
+use lib.ListN.{length, length-set}
 use Rattle.base.specs.Tests.{pick}
-use Rattle.model.specs.Classes.{chunk, startsChunk, hasTaken, hasClear, classOf}
-use Rattle.plain.specs.Arrays.{remade, pushed}
+use Rattle.plain.specs.Arrays.{pushed}
 use Rattle.plain.specs.Table.{carvedAt, cleared, released}
-use Rattle.plain.specs.Plain.{Plain, Served, Shaped}
+use Rattle.plain.specs.Plain.{Plain, Served}
 use Rattle.plain.specs.Pages.{runTaken, pagesFreed, granted, refused, allocAt, allocPages}
 use Rattle.plain.specs.Chunks.{newBytes, withByte, listedFirst, unlisted, countAsk, countFailure, chunkRefused, pageCut, chunkTaken, chunkBack, pageDropped, chunkFreed}
 use Rattle.plain.specs.Engine.{fromRun, fromRunBytes, fromPage, allocChunk, allocChunkBytes, plainAlloc, plainAllocBytes, freeMarked, freeChunkAt, freeChunkBytes, freeRunAt, freeKind, freeKindBytes, freeIn, freeInBytes, plainFree, plainFreeBytes}

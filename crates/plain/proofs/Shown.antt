@@ -1,24 +1,22 @@
 -- What a plain state shows after a change of its page table.
-use mathlib.Core.Path.{_≡_, refl, sym, ap, _∙_}
-use mathlib.Core.Logic.{_⊎_, inl, inr, _≢_}
-use mathlib.Core.Bool.{Bool, true, false, cond, not}
+use mathlib.Core.Path.{_≡_, refl, ap}
+use mathlib.Core.Logic.{inl, inr}
+use mathlib.Core.Bool.{Bool}
 use mathlib.Core.List.{List, [], _∷_}
-use Prim.Native.Nat.{ℕ, zero, suc, _+_, _-_, _≤_, _<_}
+use Prim.Native.Nat.{ℕ, _+_, _-_, _≤_, _<_}
 use native.Mathlib.Omega.{arith}
-use lib.Dec.{eqb, leb, ltb}
-use lib.ListN.{length, getD}
-use borrow.Author.Tests.{lt-ltb, le-ltb, ltb-true, eq-eqb}
+use lib.Dec.{eqb}
+use borrow.Author.Tests.{lt-ltb, le-ltb, eq-eqb}
 use Rattle.base.specs.Tests.{pick}
 use Rattle.base.specs.Lists.{Mem, keep}
-use Rattle.base.proofs.Cases.{never, lt?}
-use Rattle.base.proofs.Lists.{keep-mem, mem-keep}
-use Rattle.model.specs.State.{Page, idle, slab, taken, inside, edge, Run, State, isIdle, isOpen}
-use Rattle.model.specs.WellFormed.{TableOk, WellFormed}
+use Rattle.base.proofs.Cases.{never}
+use Rattle.base.proofs.Lists.{mem-keep}
+use Rattle.model.specs.State.{idle, slab, edge, Run}
+use Rattle.model.specs.WellFormed.{WellFormed}
 use Rattle.model.proofs.Table.{is-idle, in-table}
 use Rattle.model.proofs.Lists.{open-is}
-use Rattle.plain.specs.declared.PageEntry.{PageEntry}
 use Rattle.plain.specs.Table.{readRuns}
-use Rattle.plain.specs.Plain.{Plain, Shaped, freeEntry, entryAt, markOf, pageOf, pageAt, listed, listOf, readPlain}
+use Rattle.plain.specs.Plain.{Plain, entryAt, markOf, pageOf, pageAt, listed, listOf, readPlain}
 use Rattle.plain.proofs.Table.{Small}
 
 -- ---- pages

@@ -1,31 +1,31 @@
 -- Alloc and free on a plain state answer and leave what the model's calls do.
-use mathlib.Core.Path.{_≡_, refl, sym, ap, _∙_}
-use mathlib.Core.Logic.{_⊎_, inl, inr, _≢_}
-use mathlib.Core.Bool.{Bool, true, false, cond, not}
-use mathlib.Core.Option.{Option, none, some}
+use mathlib.Core.Path.{_≡_, refl, ap, _∙_}
+use mathlib.Core.Logic.{_⊎_, inl, inr}
+use mathlib.Core.Bool.{Bool, true, false}
+use mathlib.Core.Option.{none, some}
 use mathlib.Core.List.{List, [], _∷_}
-use Prim.Native.Nat.{ℕ, zero, suc, _+_, _-_, _*_, _/_, _%_, _≤_, _<_}
+use Prim.Native.Nat.{ℕ, _+_, _-_, _*_, _≤_, _<_}
 use native.Mathlib.Omega.{arith}
 use native.Mathlib.Nat.{mod-eq-of-lt}
-use lib.Dec.{eqb, leb, ltb}
+use lib.Dec.{eqb, leb}
 use lib.ListN.{length, getD}
-use borrow.Author.Tests.{lt-ltb, le-ltb, le-leb, lt-leb, eq-eqb, ne-eqb, leb-true, leb-false, eqb-true, eqb-false}
+use borrow.Author.Tests.{lt-ltb, le-ltb, le-leb, lt-leb, leb-true, leb-false}
 use Rattle.base.specs.Tests.{pick}
 use Rattle.base.specs.Functions.{upd}
-use Rattle.base.specs.Lists.{Mem, keep}
-use Rattle.base.proofs.Cases.{never, lt?, eq?, bool?}
-use Rattle.model.specs.Classes.{chunk, chunks, own, lowest, hasClear, hasTaken, startsChunk, classOf, pagesFor, needOf}
-use Rattle.model.specs.State.{Page, idle, slab, taken, inside, edge, Run, State, marksOf}
+use Rattle.base.specs.Lists.{keep}
+use Rattle.base.proofs.Cases.{lt?}
+use Rattle.model.specs.Classes.{chunk, chunks, own, lowest, classOf, pagesFor, needOf}
+use Rattle.model.specs.State.{marksOf}
 use Rattle.model.specs.Runs.{fit}
-use Rattle.model.specs.Calls.{Answer, at, freed, no, Reply, noRoom, nothingAsked, refuse, allocRun, cutPage, markChunk, allocChunk, allocFor, alloc}
+use Rattle.model.specs.Calls.{Answer, at, Reply, noRoom, nothingAsked, refuse, allocRun, cutPage, markChunk, allocChunk, allocFor, alloc}
 use Rattle.model.specs.WellFormed.{WellFormed}
 use Rattle.model.proofs.Classes.{class-ok, own-few, chunk-ends, lowest-clear}
 use Rattle.plain.specs.Arrays.{placeOf}
 use Rattle.plain.specs.Table.{vacant, wrap, runOf, readRuns, firstFit, runAt}
-use Rattle.plain.specs.Plain.{Plain, Served, Shaped, entryAt, markOf, pageAt, listed, listOf, readPlain}
-use Rattle.plain.specs.Pages.{runTaken, refused, granted, offsetOf, allocAt, allocPages}
-use Rattle.plain.specs.Chunks.{newBytes, withByte, isNoPage, chunkRefused, pageCut, chunkTaken}
-use Rattle.plain.specs.Engine.{allocAnswer, freeAnswer, isReady, readyPage, chunkOffset, fromRun, fromRunBytes, fromPage, plainAlloc, plainAllocBytes}
+use Rattle.plain.specs.Plain.{Plain, Served, Shaped, entryAt, markOf, listed, listOf, readPlain}
+use Rattle.plain.specs.Pages.{refused, granted, offsetOf, allocAt, allocPages}
+use Rattle.plain.specs.Chunks.{withByte, isNoPage}
+use Rattle.plain.specs.Engine.{allocAnswer, isReady, readyPage, chunkOffset, fromRun, fromRunBytes, fromPage, plainAlloc, plainAllocBytes}
 use Rattle.plain.specs.Engine as engine
 use Rattle.plain.proofs.Table.{fit-read}
 use Rattle.plain.proofs.Pages.{found, inside-pool, run-taken}

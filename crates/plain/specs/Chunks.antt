@@ -1,17 +1,16 @@
 -- Chunks handed out and back, on the plain state. Each operation is told twice: the tables that it leaves, and the bytes of the chunks.
-use mathlib.Core.Bool.{Bool, true, false}
+use mathlib.Core.Bool.{Bool}
 use mathlib.Core.List.{List}
 use Prim.Native.Nat.{ℕ, _+_, _*_, _/_, _%_}
-use lib.Dec.{eqb, leb, ltb}
+use lib.Dec.{eqb, leb}
 use lib.ListN.{getD, set}
 use Rattle.base.specs.Tests.{pick}
-use Rattle.model.specs.Classes.{own, lowest, hasClear, hasTaken}
+use Rattle.model.specs.Classes.{own}
 use Rattle.model.specs.Calls.{raise}
-use Rattle.plain.specs.Arrays.{remade, placeOf, pushed}
+use Rattle.plain.specs.Arrays.{remade, pushed}
 use Rattle.plain.specs.Table.{vacant, carvedAt}
-use Rattle.plain.specs.Plain.{Plain, pageCount, entryAt, markOf, noCounts}
+use Rattle.plain.specs.Plain.{Plain, pageCount, noCounts}
 use Rattle.plain.specs.Pages.{pagesFreed}
-use Rattle.plain.specs.declared.PageEntry.{PageEntry}
 use Rattle.plain.specs.declared.Counts.{Counts}
 
 -- ---- bytes of chunks

@@ -1,5 +1,5 @@
 -- Alloc and free on the plain state: the answer with the tables that they leave, and the bytes of the chunks.
-use mathlib.Core.Bool.{Bool, true, false}
+use mathlib.Core.Bool.{Bool, false}
 use mathlib.Core.List.{List}
 use Prim.Native.Nat.{ℕ, _+_, _*_, _/_, _%_}
 use lib.Dec.{eqb, leb, ltb}

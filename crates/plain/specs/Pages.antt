@@ -1,5 +1,4 @@
 -- Pages taken and released, on the plain state.
-use mathlib.Core.List.{List}
 use Prim.Native.Nat.{ℕ, _+_, _*_}
 use lib.Dec.{eqb, leb, ltb}
 use lib.ListN.{getD}

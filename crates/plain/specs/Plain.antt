@@ -1,6 +1,6 @@
 -- The plain state, and the model state that it shows. Chunk i of page p is byte 512 * p + i of the lent slice b, and 0 is a free chunk.
 use mathlib.Core.Path.{_≡_}
-use mathlib.Core.Bool.{Bool, true, false, not}
+use mathlib.Core.Bool.{Bool, false, not}
 use mathlib.Core.List.{List}
 use Prim.Native.Nat.{ℕ, _+_, _*_, _≤_}
 use lib.Dec.{eqb, ltb}

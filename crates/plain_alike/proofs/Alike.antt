@@ -1,24 +1,22 @@
 -- The plain engine and the packed pool answer alike, since both are the model.
-use mathlib.Core.Path.{_≡_, refl, sym, ap, subst, _∙_}
-use mathlib.Core.Bool.{Bool, true, false}
+use mathlib.Core.Path.{_≡_, refl, sym, ap, _∙_}
+use mathlib.Core.Bool.{true}
 use mathlib.Core.List.{List, [], _∷_}
 use Prim.Native.Nat.{ℕ, _≤_, _<_}
 use native.Mathlib.Omega.{arith}
-use lib.Dec.{eqb, ltb}
+use lib.Dec.{eqb}
 use lib.ListN.{length, getD}
 use borrow.Author.Tests.{eqb-true, lt-ltb}
-use Rattle.base.specs.Tests.{pick, allOf, allBelow}
 use Rattle.base.proofs.Tests.{both-true}
 use Rattle.base.proofs.AllBelow.{each-of, all-at, pick-yes}
 use Rattle.words.specs.Word.{Bytes}
 use Rattle.records.specs.Header.{headerAt}
 use Rattle.records.specs.Class.{classAt}
 use Rattle.answers.specs.Outcome.{Outcome}
-use Rattle.model.specs.State.{State, Tally, isIdle}
+use Rattle.model.specs.State.{State, Tally}
 use Rattle.model.specs.View.{usedOf, shown}
 use Rattle.model.specs.Calls.{Call, step, fresh}
-use Rattle.format.specs.Format.{shortest, tooLong, formatted}
-use Rattle.rules.specs.Fields.{Fields}
+use Rattle.format.specs.Format.{formatted}
 use Rattle.rules.specs.Read.{tallyIn, tallyOf, readFields}
 use Rattle.rules.specs.Rules.{freeIn}
 use Rattle.rules.specs.Bytes.{pagesIn, imageOf, fieldsOf, brokenRule, read}
@@ -27,15 +25,14 @@ use Rattle.drawing.proofs.Laws.{none-broken, claims as laws-of}
 use Rattle.demands.specs.Calls.{answered, after, outcome}
 use Rattle.demands.specs.Demands.{Turn, Allowed, Rewritten, played, Demands}
 use Rattle.demands.proofs.Demands.{all-demands}
-use Rattle.plain.specs.Plain.{Plain, Served, noCounts, pageAt, readPlain, tallyOf as plainTally}
+use Rattle.plain.specs.Plain.{Plain, Served, noCounts, readPlain, tallyOf as plainTally}
 use Rattle.plain.specs.declared.Counts.{Counts}
 use Rattle.plain.specs.declared.Extent.{Extent}
 use Rattle.plain_rules.specs.Counts.{usedIn, totalIn, freeIn as plainFree}
-use Rattle.plain_rules.specs.Rules.{extentOk, countsOk, pageOk, isSound}
+use Rattle.plain_rules.specs.Rules.{countsOk, isSound}
 use Rattle.plain_rules.proofs.Counted.{free-is, used-is, total-is}
 use Rattle.plain.specs.declared.Kept.{Kept}
-use Rattle.plain.specs.declared.Answer.{Answer}
-use Rattle.plain_decide.specs.Calls.{tableLength, outcomeOf, Serves, seen, servedAs, Lent, Formats}
+use Rattle.plain_decide.specs.Calls.{tableLength, outcomeOf, Serves, seen, servedAs}
 use Rattle.plain_alike.specs.Claim.{callsOf, poolAnswers, Played, SameCounts, Alike}
 
 -- ---- counts

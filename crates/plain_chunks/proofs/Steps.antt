@@ -1,9 +1,9 @@
 -- The search for the lowest free chunk.
-use mathlib.Core.Path.{_≡_, refl, sym, ap, _∙_}
+use mathlib.Core.Path.{_≡_, sym, ap, _∙_}
 use mathlib.Core.Logic.{_⊎_, inl, inr}
 use mathlib.Core.Bool.{Bool, true, false, not}
 use mathlib.Core.List.{List}
-use Prim.Native.Nat.{ℕ, suc, _+_, _*_, _≤_, _<_}
+use Prim.Native.Nat.{ℕ, _+_, _*_, _≤_, _<_}
 use native.Mathlib.Omega.{arith}
 use lib.Dec.{eqb, ltb}
 use lib.ListN.{length, getD}
@@ -11,7 +11,7 @@ use borrow.Author.Tests.{lt-ltb, not-true, not-false}
 use Rattle.base.specs.Tests.{pick}
 use Rattle.base.specs.Search.{any}
 use Rattle.base.proofs.Cases.{eq?}
-use Rattle.base.proofs.Search.{Least, least-is}
+use Rattle.base.proofs.Search.{least-is}
 use Rattle.model.specs.Classes.{chunks, lowest, hasClear}
 use Rattle.plain.specs.Plain.{markOf}
 use Rattle.plain.proofs.Loops.{getD-past}

@@ -1,7 +1,6 @@
 // The list of pages with a free chunk, by value, and the bytes of the chunks, lent.
 ghost use mathlib.Core.Path.{_≡_};
 ghost use Prim.Native.Nat.{_<_, _≤_};
-ghost use lib.ListN.{length};
 ghost use lib.Dec.{eqb};
 ghost use Rattle.base.specs.Tests.{pick};
 ghost use Rattle.model.specs.Classes.{own, chunks, lowest, hasClear};

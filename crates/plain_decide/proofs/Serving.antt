@@ -1,18 +1,18 @@
 -- The public calls are the model's.
 use mathlib.Core.Path.{_≡_, refl, sym, ap, _∙_}
-use mathlib.Core.Logic.{_⊎_, inl, inr, _≢_}
+use mathlib.Core.Logic.{_⊎_, inl, inr}
 use mathlib.Core.Bool.{Bool, true, false}
-use mathlib.Core.List.{List, [], _∷_}
-use Prim.Native.Nat.{ℕ, zero, suc, _≤_, _<_}
+use mathlib.Core.List.{List}
+use Prim.Native.Nat.{ℕ, _≤_, _<_}
 use native.Mathlib.Omega.{arith}
-use lib.Dec.{eqb, leb, ltb}
+use lib.Dec.{eqb, ltb}
 use lib.ListN.{length, getD}
-use borrow.Author.Tests.{eq-eqb, ne-eqb, eqb-true, eqb-false, lt-ltb, le-ltb}
+use borrow.Author.Tests.{eq-eqb, eqb-true, lt-ltb, le-ltb}
 use Rattle.base.specs.Tests.{pick}
 use Rattle.base.specs.Count.{count}
 use Rattle.base.proofs.Cases.{lt?, clash}
 use Rattle.base.proofs.AllBelow.{pick-yes, pick-no}
-use Rattle.answers.specs.Outcome.{Outcome, numberOf}
+use Rattle.answers.specs.Outcome.{numberOf}
 use Rattle.answers.specs.declared.Refusal.the-variants.{NotSound, TableTooShort}
 use Rattle.model.specs.State.{State, isIdle}
 use Rattle.model.specs.View.{usedOf, shown}
@@ -20,10 +20,10 @@ use Rattle.model.specs.Calls.{Call, Alloc, Free, Answer, at, freed, no, step, a
 use Rattle.model.specs.WellFormed.{WellFormed}
 use Rattle.model.proofs.Claim.{claims}
 use Rattle.demands.specs.Calls.{outcome}
-use Rattle.plain.specs.Plain.{Plain, Served, Shaped, entryAt, freeEntry, pageAt, noCounts, readPlain}
+use Rattle.plain.specs.Plain.{Plain, Served, Shaped, entryAt, freeEntry, pageAt, readPlain}
 use Rattle.plain.specs.Pages.{refused}
-use Rattle.plain.specs.Engine.{allocAnswer, freeAnswer, plainAlloc, plainAllocBytes, plainFree, plainFreeBytes}
-use Rattle.plain.proofs.Whole.{Meets, alloc-met}
+use Rattle.plain.specs.Engine.{allocAnswer, freeAnswer, plainAlloc, plainFree}
+use Rattle.plain.proofs.Whole.{alloc-met}
 use Rattle.plain.proofs.Freed.{free-met}
 use Rattle.plain.proofs.Loops.{getD-past, length-remade}
 use Rattle.plain.proofs.Shapes.{Tables, tables-alloc, tables-free, bytes-alloc, bytes-free}

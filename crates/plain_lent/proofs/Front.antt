@@ -4,7 +4,7 @@ use mathlib.Core.Bool.{Bool, true, false, not}
 use mathlib.Core.List.{List, _++_}
 use Prim.Native.Nat.{ℕ, _+_, _≤_, _<_}
 use native.Mathlib.Omega.{arith}
-use lib.ListN.{length, getD, set, take, drop, length-set, take-append-drop, List·getD-append}
+use lib.ListN.{length, getD, set, take, drop, take-append-drop, List·getD-append}
 use lib.Dec.{T as Holds, eqb}
 use lib.Seq.{length-take-le, length-front, getD-take, set-append-left, set-out, take-at, drop-at}
 use Rattle.base.specs.Tests.{pick}

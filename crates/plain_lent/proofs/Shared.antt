@@ -2,7 +2,7 @@
 --     Kept           what the holder keeps: the lender's part at κ′, and its own borrow at κ, open, with both halves of its ghost variable
 --     lends-shared   own (the `&κ mut [T]` ((b, o), γ, ys)) ∗ [κ]_q  ⊢ ⇛ ∃ δ. own (the `&κ′ [T]` ((b, o), δ, ys)) ∗ Kept
 --     shared-back    given `Room`:  [†κ′] ∗ Kept  ⊢ ⇛ (own (the `&κ mut [T]` ((b, o), γ, ys)) ∗ [κ]_q)
-use mathlib.Core.Path.{_≡_, refl}
+use mathlib.Core.Path.{refl}
 use Prim.Native.Nat.{ℕ}
 use mathlib.Core.List.{List, [], _∷_}
 use lib.ListN.{length}

@@ -1,11 +1,9 @@
 -- The page at the place that the scan finds.
 use mathlib.Core.Path.{_≡_, refl, sym, ap, _∙_}
-use mathlib.Core.Bool.{Bool}
 use mathlib.Core.List.{List, [], _∷_}
-use Prim.Native.Nat.{ℕ, zero, suc, _≤_, _<_}
+use Prim.Native.Nat.{ℕ, zero, suc, _<_}
 use native.Mathlib.Omega.{arith}
 use lib.ListN.{length, getD}
-use Rattle.plain.specs.Arrays.{placeOf}
 use Rattle.plain.proofs.Loops.{getD-past}
 
 -- past the table's end another default is read

@@ -1,23 +1,21 @@
 -- What is counted from pages and bytes is what the state shows.
 use mathlib.Core.Path.{_≡_, refl, sym, ap, _∙_}
 use mathlib.Core.Logic.{_⊎_, inl, inr}
-use mathlib.Core.Bool.{Bool, true, false, cond, _&&_, and-false}
+use mathlib.Core.Bool.{Bool, true, false, _&&_, and-false}
 use mathlib.Core.List.{List}
 use Prim.Native.Nat.{ℕ, zero, suc, _+_, _*_, _≤_, _<_}
 use native.Mathlib.Omega.{arith}
 use lib.Dec.{eqb, leb, ltb}
 use lib.ListN.{length, getD}
-use borrow.Author.Tests.{lt-ltb, le-ltb, eq-eqb, ltb-true, eqb-true}
+use borrow.Author.Tests.{lt-ltb, le-ltb, ltb-true, eqb-true}
 use Rattle.base.specs.Tests.{pick}
 use Rattle.base.specs.Count.{sum, bit, count}
 use Rattle.base.proofs.Cases.{clash, lt?, same-test}
 use Rattle.base.proofs.Count.{sum-ext, sum-zero}
 use Rattle.base.proofs.Search.{any-some, any-at}
 use Rattle.model.specs.Classes.{chunks, own, counted, hasTaken}
-use Rattle.model.specs.State.{Page, idle, slab, taken, inside, edge, State, isIdle, marksOf}
+use Rattle.model.specs.State.{isIdle, marksOf}
 use Rattle.model.specs.View.{isClass, kindOf, usedOn, usedOf, totalIn as totalShown, shown}
-use Rattle.plain.specs.declared.PageEntry.{PageEntry}
-use Rattle.plain.specs.declared.Counts.{Counts}
 use Rattle.plain.specs.Plain.{Plain, freeEntry, entryAt, markOf, pageOf, pageAt, listOf, noCounts, tallyOf, readPlain}
 use Rattle.plain.specs.Arrays.{remade}
 use Rattle.plain.proofs.Loops.{getD-remade, getD-past, length-remade}

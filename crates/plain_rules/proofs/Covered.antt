@@ -3,24 +3,23 @@ use mathlib.Core.Path.{_≡_, refl, sym, ap, _∙_}
 use mathlib.Core.Logic.{_⊎_, inl, inr, _≢_}
 use mathlib.Core.Bool.{Bool, true, false}
 use mathlib.Core.List.{List, [], _∷_}
-use Prim.Native.Nat.{ℕ, zero, suc, _+_, _-_, _≤_, _<_}
+use Prim.Native.Nat.{ℕ, suc, _+_, _-_, _≤_, _<_}
 use native.Mathlib.Omega.{arith}
 use lib.Dec.{eqb, leb, ltb}
-use lib.ListN.{length, getD}
-use borrow.Author.Tests.{lt-ltb, le-leb, lt-leb, le-ltb, eq-eqb, ne-eqb, leb-true, ltb-true, eqb-true}
+use borrow.Author.Tests.{lt-ltb, le-leb, eq-eqb, ne-eqb, leb-true, ltb-true, eqb-true}
 use Rattle.base.specs.Tests.{pick}
 use Rattle.base.specs.Count.{bit}
 use Rattle.base.specs.Lists.{Mem, NoDup}
 use Rattle.base.proofs.Tests.{both-true, not-and-true}
 use Rattle.base.proofs.AllBelow.{pick-both}
-use Rattle.base.proofs.Cases.{never, clash, lt?, eq?, bool?, decided}
+use Rattle.base.proofs.Cases.{clash, lt?, eq?, decided}
 use Rattle.base.proofs.Lists.{mem-cast}
 use Rattle.model.specs.State.{Run}
 use Rattle.model.specs.WellFormed.{Stretch, RunsOk}
 use Rattle.model.proofs.Runs.{same-run}
 use Rattle.plain.specs.declared.Extent.{Extent}
 use Rattle.plain.specs.declared.PageEntry.{PageEntry}
-use Rattle.plain.specs.Table.{vacant, isVacant, runOf, readRuns}
+use Rattle.plain.specs.Table.{isVacant, runOf, readRuns}
 use Rattle.plain.proofs.Table.{read-none, read-vacant, read-run}
 use Rattle.plain_rules.specs.Counts.{freePage}
 use Rattle.plain_rules.specs.Rules.{howMany, freeBefore, apart, stretchOk, extentOk, holdsPage, runsOk}

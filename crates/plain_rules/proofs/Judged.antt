@@ -1,19 +1,17 @@
 -- The tests of rules 2 to 6 hold exactly when a plain state is sound.
 use mathlib.Core.Path.{_≡_, refl, sym, ap, _∙_}
-use mathlib.Core.Logic.{_⊎_, inl, inr}
 use mathlib.Core.Bool.{Bool, true, false}
-use mathlib.Core.List.{List, [], _∷_}
+use mathlib.Core.List.{List}
 use Prim.Native.Nat.{ℕ, _≤_, _<_}
 use native.Mathlib.Omega.{arith}
 use lib.Dec.{eqb}
-use lib.ListN.{length, getD}
+use lib.ListN.{getD}
 use borrow.Author.Tests.{eq-eqb, eqb-true}
-use Rattle.base.specs.Tests.{pick, allOf, allBelow}
+use Rattle.base.specs.Tests.{allBelow}
 use Rattle.base.specs.Lists.{Mem}
 use Rattle.base.proofs.Tests.{both-true}
 use Rattle.base.proofs.AllBelow.{pick-both, each-of, all-of, _&_, all-at, at-all}
-use Rattle.base.proofs.Cases.{lt?}
-use Rattle.model.specs.State.{most, State, Tally, isIdle}
+use Rattle.model.specs.State.{isIdle}
 use Rattle.model.specs.View.{usedOf, shown}
 use Rattle.model.specs.WellFormed.{TallyOk, WellFormed}
 use Rattle.plain.specs.declared.Extent.{Extent}
@@ -21,7 +19,7 @@ use Rattle.plain.specs.Table.{vacant}
 use Rattle.plain.specs.Plain.{Plain, Shaped, freeEntry, entryAt, pageAt, noCounts, tallyOf, readPlain}
 use Rattle.plain.proofs.Loops.{getD-past}
 use Rattle.plain.proofs.Shown.{page-past}
-use Rattle.plain_rules.specs.Counts.{freePage, usedIn, totalIn, freeIn}
+use Rattle.plain_rules.specs.Counts.{usedIn, totalIn, freeIn}
 use Rattle.plain_rules.specs.Rules.{kindOk, extentOk, runsOk, listOk, countsOk, pageOk, isSound}
 use Rattle.plain_rules.specs.Sound.{Tallied, Sound, Judged}
 use Rattle.plain_rules.proofs.Counted.{page-free, free-is, used-is, total-is}

@@ -3,20 +3,18 @@ use mathlib.Core.Path.{_≡_, refl, sym, ap, _∙_}
 use mathlib.Core.Logic.{_⊎_, inl, inr, _≢_}
 use mathlib.Core.Bool.{Bool, true, false}
 use mathlib.Core.List.{List, [], _∷_}
-use Prim.Native.Nat.{ℕ, zero, suc, _+_, _≤_, _<_}
+use Prim.Native.Nat.{ℕ, _≤_, _<_}
 use native.Mathlib.Omega.{arith}
 use lib.Dec.{eqb, ltb}
-use lib.ListN.{length, getD}
-use borrow.Author.Tests.{lt-ltb, le-ltb, eq-eqb, ne-eqb, ltb-true, eqb-true}
-use Rattle.base.specs.Tests.{pick}
+use borrow.Author.Tests.{lt-ltb, le-ltb, eq-eqb, ltb-true, eqb-true}
 use Rattle.base.specs.Count.{bit}
-use Rattle.base.specs.Lists.{Mem, NoDup, keep}
+use Rattle.base.specs.Lists.{Mem, NoDup}
 use Rattle.base.proofs.Tests.{both-true}
 use Rattle.base.proofs.AllBelow.{pick-both}
 use Rattle.base.proofs.Cases.{clash, lt?, eq?, decided}
 use Rattle.base.proofs.Lists.{mem-cast, keep-mem, mem-keep, keep-once}
 use Rattle.model.specs.Classes.{hasClear}
-use Rattle.model.specs.State.{Page, slab, isOpen as opens}
+use Rattle.model.specs.State.{isOpen as opens}
 use Rattle.model.specs.WellFormed.{ListsOk, WellFormed}
 use Rattle.model.proofs.Lists.{open-is, open-slab}
 use Rattle.plain.specs.Plain.{Plain, entryAt, markOf, pageAt, listed, listOf, readPlain}

@@ -3,17 +3,17 @@ use mathlib.Core.Path.{_≡_, refl, sym, ap, _∙_}
 use mathlib.Core.Logic.{_⊎_, inl, inr, _≢_}
 use mathlib.Core.Bool.{Bool, true, false}
 use mathlib.Core.List.{List}
-use Prim.Native.Nat.{ℕ, zero, suc, _+_, _-_, _≤_, _<_}
+use Prim.Native.Nat.{ℕ, _+_, _-_, _≤_, _<_}
 use native.Mathlib.Omega.{arith}
 use lib.Dec.{eqb, leb, ltb}
-use lib.ListN.{length, getD}
+use lib.ListN.{getD}
 use borrow.Author.Tests.{lt-ltb, le-leb, eq-eqb, ne-eqb, leb-true, ltb-true, eqb-true, eqb-false}
 use Rattle.base.specs.Tests.{pick, allBelow}
 use Rattle.base.proofs.Tests.{both-true, not-and-true}
 use Rattle.base.proofs.AllBelow.{pick-both, all-at, at-all}
 use Rattle.base.proofs.Cases.{never, clash, lt?, eq?}
 use Rattle.base.proofs.Search.{any-some, any-at}
-use Rattle.model.specs.Classes.{own, hasTaken}
+use Rattle.model.specs.Classes.{own}
 use Rattle.model.specs.State.{Page, idle, slab, taken, inside, edge}
 use Rattle.model.specs.WellFormed.{ClassOk, PageOk, TableOk}
 use Rattle.model.proofs.Table.{slab-ok, taken-ok}

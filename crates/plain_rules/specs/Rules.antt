@@ -1,7 +1,7 @@
 -- Rules 2 to 6 (SPEC 16.3) as tests on a plain state: its pages t, the table of its free runs, its list of ready pages, the bytes b of the chunks.
 use mathlib.Core.Bool.{Bool, true, false}
 use mathlib.Core.List.{List, [], _∷_}
-use Prim.Native.Nat.{ℕ, suc, _+_, _-_}
+use Prim.Native.Nat.{ℕ, _+_, _-_}
 use lib.Dec.{eqb, leb, ltb}
 use lib.ListN.{getD}
 use Rattle.base.specs.Tests.{pick, allOf, allBelow}

@@ -1,6 +1,6 @@
 -- A script served line by line on a plain state.
 use mathlib.Core.Path.{_≡_, refl, sym, ap, _∙_}
-use mathlib.Core.Bool.{Bool, true, false}
+use mathlib.Core.Bool.{true}
 use mathlib.Core.List.{List, [], _∷_, _++_}
 use mathlib.Core.Option.{Option, none, some}
 use Prim.Native.Nat.{ℕ, zero, suc, _+_, _*_, _≤_}
@@ -8,22 +8,21 @@ use native.Mathlib.Omega.{arith}
 use lib.Dec.{eqb, leb}
 use lib.ListN.{length, length-append}
 use borrow.Author.Tests.{eqb-true, eq-eqb, ne-eqb, le-leb}
-use Rattle.base.specs.Tests.{pick, allOf, allBelow}
+use Rattle.base.specs.Tests.{pick}
 use Rattle.base.specs.Count.{bit}
 use Rattle.base.proofs.AllBelow.{each-of}
 use Rattle.answers.specs.Outcome.{Outcome}
 use Rattle.answers.specs.declared.Refusal.the-variants.{Unreadable}
-use Rattle.model.specs.State.{State, isIdle}
-use Rattle.model.specs.Calls.{Call, Alloc, Free, fresh, step}
+use Rattle.model.specs.State.{State}
+use Rattle.model.specs.Calls.{Call, Alloc, Free, fresh}
 use Rattle.rules.specs.Rules.{freeIn}
-use Rattle.demands.specs.Calls.{outcome}
 use Rattle.script_lines.specs.Lines.{lines, request}
 use Rattle.printing.specs.Text.{line, written, Prints}
 use Rattle.printing.proofs.Writing.{written-none, written-append}
 use Rattle.script_replies.specs.Replies.{poolWord, noWord, refusalLine, outcomeLine, allocLine, freeLine, replyLine}
 use Rattle.script_summary.specs.Summary.{summaryLine}
 use Rattle.script.specs.Script.{pages, reply, next, replies, final, joined, summary, exchange, transcript}
-use Rattle.script.proofs.Room.{exchange-fits, summary-few, line-few}
+use Rattle.script.proofs.Room.{exchange-fits}
 use Rattle.plain.specs.Table.{isVacant, holds, runOf, readRuns}
 use Rattle.plain.specs.Plain.{Plain, readPlain}
 use Rattle.plain.specs.declared.Extent.{Extent}

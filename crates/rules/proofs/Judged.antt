@@ -1,5 +1,5 @@
 -- Validation tells the first rule that does not hold: the tests of `specs/Bytes.antt` in their order, and each test's plain form.
-use mathlib.Core.Path.{_≡_, refl, sym, _∙_}
+use mathlib.Core.Path.{_≡_, refl}
 use mathlib.Core.Logic.{_⊎_, inl, inr, _≢_, _↔_}
 use mathlib.Core.Bool.{Bool, true, false}
 use mathlib.Core.List.{List}
@@ -7,10 +7,9 @@ use Prim.Native.Nat.{ℕ, zero, suc, _+_, _≤_, _<_}
 use native.Mathlib.Omega.{arith}
 use Rattle.base.specs.Tests.{pick}
 use Rattle.base.proofs.Cases.{clash, decided, eq?, lt?}
-use Rattle.records.specs.Layout.{noPage}
 use Rattle.rules.specs.Rules.{rule2, rule3, rule4, rule5}
 use Rattle.rules.specs.Bytes.{pagesIn, fieldsOf, rule1, countsAndPeaks, brokenRule}
-use Rattle.rules.specs.Judged.{Rule, Judged, Judge}
+use Rattle.rules.specs.Judged.{Rule, Judge}
 use Rattle.rules.proofs.Rule1.{rule1-says, rule1-iff}
 use Rattle.rules.proofs.Rule2.{rule2-iff}
 use Rattle.rules.proofs.Rules.{rule3-iff, rule4-iff, rule5-iff}

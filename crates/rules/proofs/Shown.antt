@@ -23,7 +23,7 @@ use Rattle.maps.proofs.Bits.{bits-join}
 use Rattle.rules.specs.Fields.{Fields, kind, class, run, next, prev, map, pageAt}
 use Rattle.rules.specs.Drawn.{starts, links, onList, backLink, freeLinks, pageLinks, mapOf, stateImage, stateFields}
 use Rattle.model.proofs.Classes.{own-none}
-use Rattle.rules.specs.Plain.{LiesIn, Inside, First, ClassPage, Shape, LinksHold, Rule2}
+use Rattle.rules.specs.Plain.{LiesIn, Inside, First, ClassPage, Shape, Rule2}
 use Rattle.rules.proofs.Pages.{page-past, page-idle, page-kind}
 use Rattle.rules.proofs.Runs.{started, ended, start-some, inner-start}
 

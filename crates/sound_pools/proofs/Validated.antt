@@ -11,7 +11,7 @@ use borrow.Author.Tests.{eqb-true, eqb-false, not-true, not-false}
 use Rattle.words.specs.Word.{Bytes}
 use Rattle.records.specs.Layout.{pageCount}
 use Rattle.model.specs.Calls.{Call, Alloc, Free}
-use Rattle.rules.specs.Bytes.{pagesIn, brokenRule}
+use Rattle.rules.specs.Bytes.{brokenRule}
 use Rattle.classes.specs.Mirror.{Whole}
 use Rattle.alloc_sound.specs.Mirror.{allocOutcome, allocSlice}
 use Rattle.free_sound.specs.Mirror.{freeOutcome, freeSlice}

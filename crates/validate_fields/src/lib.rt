@@ -4,7 +4,7 @@ use records::PageNumber;
 ghost use mathlib.Core.Path.{_≡_};
 ghost use Prim.Native.Nat.{_*_, _≤_, _<_};
 ghost use Rattle.words.specs.Word.{word};
-ghost use Rattle.records.specs.Layout.{linksPlace};
+ghost use Rattle.records.specs.Layout.{noPage, linksPlace};
 ghost use Rattle.rules.specs.Fields.{kind, map};
 ghost use Rattle.rules.specs.Rules.{kindAt};
 ghost use Rattle.rules.specs.Bytes.{fieldsOf, mapBase};
@@ -31,7 +31,7 @@ pub fn kind_of(pool: &[u8], w: u8, p: PageNumber) -> u8
 
 // Whether p is one of the n pages and of this kind.
 pub fn kind_at(pool: &[u8], w: u8, n: usize, want: u8, p: usize) -> bool
-    requires { ⌜ n ≤ 65535 ⌝ }
+    requires { ⌜ n ≤ noPage ⌝ }
     ensures { λ r. ⌜ r ≡ kindAt (fieldsOf w (now (pool .entry))) n want p ⌝ }
 {
     if p < n {
@@ -49,7 +49,7 @@ pub fn map_of(pool: &[u8], w: u8, p: PageNumber) -> u64
 
 // The word at which the map of page p of n begins, where the page is of class c.
 pub fn map_at(w: u8, n: usize, p: PageNumber, c: u8) -> usize
-    requires { ⌜ n ≤ 65535 ⌝ }
+    requires { ⌜ n ≤ noPage ⌝ }
     ensures answer { λ r. ⌜ 8 * r ≡ mapBase w n (p .0) c ⌝ }
     ensures bound { λ r. ⌜ r < 67108864 ⌝ }
 {

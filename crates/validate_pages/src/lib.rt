@@ -8,6 +8,7 @@ ghost use mathlib.Core.Path.{_≡_};
 ghost use mathlib.Core.Bool.{true};
 ghost use Prim.Native.Nat.{ℕ, _≤_, _<_};
 ghost use lib.ListN.{length, getD};
+ghost use Rattle.records.specs.Layout.{noPage};
 ghost use Rattle.records.specs.Page.{unpackLinks};
 ghost use Rattle.model.specs.Classes.{chunks, own};
 ghost use Rattle.rules.specs.Rules.{rule2};
@@ -35,7 +36,7 @@ pub fn add_at(t: &mut [u64; 11], j: usize, x: u64)
 
 // The set marks of page p of n, which has class c. A map in the record is read as `validate_slabs` reads it, so that the two are one load.
 pub fn ones_of(pool: &[u8], w: u8, n: usize, p: PageNumber, c: u8) -> usize
-    requires { ⌜ (n ≡ pagesIn w (now pool)) × (p .0 < n) × (n ≤ 65535) ⌝ }
+    requires { ⌜ (n ≡ pagesIn w (now pool)) × (p .0 < n) × (n ≤ noPage) ⌝ }
     ensures answer { λ r. ⌜ r ≡ onesAt w (now (pool .entry)) (p .0) c ⌝ }
     ensures bound { λ r. ⌜ r ≤ 512 ⌝ }
 {
@@ -82,7 +83,7 @@ pub fn class_fault(c: u8, ones: usize, v: u64) -> u64
 
 // The class page p, with the links of the word v.
 fn add_class(pool: &[u8], w: u8, n: usize, p: PageNumber, v: u64, t: &mut [u64; 11])
-    requires { ⌜ (n ≡ pagesIn w (now pool)) × (p .0 < n) × (n ≤ 65535) × (unpackLinks v .class ≤ 8) ⌝ }
+    requires { ⌜ (n ≡ pagesIn w (now pool)) × (p .0 < n) × (n ≤ noPage) × (unpackLinks v .class ≤ 8) ⌝ }
     ensures { λ _. ⌜ now (t .exit) ≡ classAdded (now (t .entry)) (unpackLinks v .class) (onesAt w (now (pool .entry)) (p .0) (unpackLinks v .class)) (unpackLinks v) ⌝ }
 {
     let l = record_page::unpack_links(v);

@@ -1,7 +1,7 @@
 -- The tests of a whole run hold exactly where its pages keep rule 2.
 use mathlib.Core.Path.{_≡_, refl, sym, ap, _∙_}
 use mathlib.Core.Logic.{_⊎_, inl, inr, ⊎-elim, _≢_}
-use mathlib.Core.Bool.{true, not}
+use mathlib.Core.Bool.{true}
 use mathlib.Core.List.{List}
 use Prim.Native.Nat.{ℕ, _+_, _-_, _*_, _%_, _≤_, _<_}
 use native.Mathlib.Omega.{arith}
@@ -163,7 +163,7 @@ module _ (w : ℕ) (s : List ℕ) where
 
   -- ---- a free run
 
-  module _ (n p : ℕ) (few : n ≤ 65535) (z : v .spare p ≡ 0) (first : kind v p ≡ 1) where
+  module _ (n p : ℕ) (few : n ≤ noPage) (z : v .spare p ≡ 0) (first : kind v p ≡ 1) where
     abbrev k : ℕ
     k = run v p
 
@@ -221,7 +221,7 @@ module _ (w : ℕ) (s : List ℕ) where
               let d = plain-links _ j a in
               let c : class v j ≡ 0 = ap (λ (x : Links). x .class) d ∙ omega (arith, tests .3) in
               let r : run v j ≡ 0 = ap (λ (x : Links). x .run) d ∙ omega (arith, tests .3) in
-              let f : next v j ≡ 65535 = ap (λ (x : Links). x .next .0) d ∙ omega (arith, tests .3) in
+              let f : next v j ≡ noPage = ap (λ (x : Links). x .next .0) d ∙ omega (arith, tests .3) in
               let q : j + 1 ≡ p + k = omega arith in
               kept-0 v n j (plain-spare _ j a ∙ omega arith) (inside-kind j l h)
               (inside-free v n j c r (plain-map _ j a) f (omega arith) (before j l h) (λ m. no-more (rw q at m) _ _))
@@ -230,8 +230,8 @@ module _ (w : ℕ) (s : List ℕ) where
               let d = plain-links _ j a in
               let c : class v j ≡ 0 = ap (λ (x : Links). x .class) d in
               let r : run v j ≡ 0 = ap (λ (x : Links). x .run) d in
-              let f : next v j ≡ 65535 = ap (λ (x : Links). x .next .0) d in
-              let b : prev v j ≡ 65535 = ap (λ (x : Links). x .prev .0) d in
+              let f : next v j ≡ noPage = ap (λ (x : Links). x .next .0) d in
+              let b : prev v j ≡ noPage = ap (λ (x : Links). x .prev .0) d in
               kept-0 v n j (plain-spare _ j a) (inside-kind j l h) (inside-free v n j c r (plain-map _ j a) f (omega arith) (before j l h) (λ m. b))
 
       fits : runFits v n p k 0 ≡ true
@@ -299,7 +299,7 @@ module _ (w : ℕ) (s : List ℕ) where
 
   -- ---- a taken run
 
-  module _ (n p : ℕ) (few : n ≤ 65535) (z : v .spare p ≡ 0) (first : kind v p ≡ 3) where
+  module _ (n p : ℕ) (few : n ≤ noPage) (z : v .spare p ≡ 0) (first : kind v p ≡ 3) where
     module _ (e : takenWhole w s n p (v .image .links p) ≡ true) where
       taken-tests : (class v p ≡ 0) × (map v p ≡ 0) × (next v p ≡ noPage) × (prev v p ≡ noPage) × (0 < run v p) × (p + run v p ≤ n)
       unfolding takenWhole
@@ -337,8 +337,8 @@ module _ (w : ℕ) (s : List ℕ) where
           let d = plain-links _ j a in
           let c : class v j ≡ 0 = ap (λ (x : Links). x .class) d in
           let r : run v j ≡ 0 = ap (λ (x : Links). x .run) d in
-          let f : next v j ≡ 65535 = ap (λ (x : Links). x .next .0) d in
-          let b : prev v j ≡ 65535 = ap (λ (x : Links). x .prev .0) d in
+          let f : next v j ≡ noPage = ap (λ (x : Links). x .next .0) d in
+          let b : prev v j ≡ noPage = ap (λ (x : Links). x .prev .0) d in
           kept-4 v n j (plain-spare _ j a) (taken-kind j l h) (inside-taken v n j c r (plain-map _ j a) f b (omega arith) (taken-before j l h))
 
       taken-fits : runFits v n p (run v p) 4 ≡ true

@@ -5,6 +5,7 @@ use records::NO_PAGE;
 use records::PageNumber;
 ghost use mathlib.Core.Path.{_≡_};
 ghost use Prim.Native.Nat.{_+_, _≤_, _<_};
+ghost use Rattle.records.specs.Layout.{noPage};
 ghost use Rattle.records.specs.Page.{unpackLinks};
 ghost use Rattle.rules.specs.Rules.{endsFree, endsTaken};
 ghost use Rattle.rules.specs.Bytes.{fieldsOf};
@@ -19,7 +20,7 @@ const TAKEN_LINKS: u64 = 9223374235878030848;
 
 // Whether the page at this place has the links of the word v and no map.
 fn plain_at(pool: &[u8], w: u8, at: usize, v: u64) -> bool
-    requires { ⌜ at ≤ 65535 ⌝ }
+    requires { ⌜ at ≤ noPage ⌝ }
     ensures { λ r. ⌜ r ≡ plainAt w (now (pool .entry)) v at ⌝ }
 {
     let links = cells::get_word(pool, 2 + 9 * w as usize + 2 * at);
@@ -54,7 +55,7 @@ fn begins_run(pool: &[u8], w: u8, n: usize, p: PageNumber, v: u64) -> bool
 
 // Whether no free page stands at x.
 pub fn ends_free(pool: &[u8], w: u8, n: usize, x: usize) -> bool
-    requires { ⌜ n ≤ 65535 ⌝ }
+    requires { ⌜ n ≤ noPage ⌝ }
     ensures { λ r. ⌜ r ≡ endsFree (fieldsOf w (now (pool .entry))) n x ⌝ }
 {
     if x < n {
@@ -66,7 +67,7 @@ pub fn ends_free(pool: &[u8], w: u8, n: usize, x: usize) -> bool
 
 // Whether the last of the k free pages from p on leads back to p, where there are two or more.
 fn last_plain(pool: &[u8], w: u8, p: PageNumber, k: usize) -> bool
-    requires { ⌜ p .0 + k ≤ 65535 ⌝ }
+    requires { ⌜ p .0 + k ≤ noPage ⌝ }
     ensures { λ r. ⌜ r ≡ lastPlain w (now (pool .entry)) (p .0) k ⌝ }
 {
     if 1 < k {
@@ -78,7 +79,7 @@ fn last_plain(pool: &[u8], w: u8, p: PageNumber, k: usize) -> bool
 
 // The pages after the first.
 fn free_inside(pool: &[u8], w: u8, p: PageNumber, k: usize) -> bool
-    requires { ⌜ p .0 + k ≤ 65535 ⌝ }
+    requires { ⌜ p .0 + k ≤ noPage ⌝ }
     ensures { λ r. ⌜ r ≡ freeInside w (now (pool .entry)) (p .0) k ⌝ }
 {
     if last_plain(pool, w, p, k) {
@@ -96,7 +97,7 @@ fn free_inside(pool: &[u8], w: u8, p: PageNumber, k: usize) -> bool
 
 // And the page after the run.
 fn free_rest(pool: &[u8], w: u8, n: usize, p: PageNumber, k: usize) -> bool
-    requires { ⌜ (n ≤ 65535) × (p .0 + k ≤ n) ⌝ }
+    requires { ⌜ (n ≤ noPage) × (p .0 + k ≤ n) ⌝ }
     ensures { λ r. ⌜ r ≡ freeRest w (now (pool .entry)) n (p .0) k ⌝ }
 {
     if ends_free(pool, w, n, p.0 as usize + k) {
@@ -108,7 +109,7 @@ fn free_rest(pool: &[u8], w: u8, n: usize, p: PageNumber, k: usize) -> bool
 
 // Whether the free run that page p begins, with the links of the word v, keeps rule 2.
 pub fn free_whole(pool: &[u8], w: u8, n: usize, p: PageNumber, v: u64) -> bool
-    requires { ⌜ n ≤ 65535 ⌝ }
+    requires { ⌜ n ≤ noPage ⌝ }
     ensures { λ r. ⌜ r ≡ freeWhole w (now (pool .entry)) n (p .0) (unpackLinks v) ⌝ }
 {
     let l = record_page::unpack_links(v);
@@ -121,7 +122,7 @@ pub fn free_whole(pool: &[u8], w: u8, n: usize, p: PageNumber, v: u64) -> bool
 
 // Whether no page inside a taken run stands at x.
 pub fn ends_taken(pool: &[u8], w: u8, n: usize, x: usize) -> bool
-    requires { ⌜ n ≤ 65535 ⌝ }
+    requires { ⌜ n ≤ noPage ⌝ }
     ensures { λ r. ⌜ r ≡ endsTaken (fieldsOf w (now (pool .entry))) n x ⌝ }
 {
     if x < n {
@@ -132,7 +133,7 @@ pub fn ends_taken(pool: &[u8], w: u8, n: usize, x: usize) -> bool
 }
 
 fn taken_rest(pool: &[u8], w: u8, n: usize, p: PageNumber, k: usize) -> bool
-    requires { ⌜ (n ≤ 65535) × (0 < k) × (p .0 + k ≤ n) ⌝ }
+    requires { ⌜ (n ≤ noPage) × (0 < k) × (p .0 + k ≤ n) ⌝ }
     ensures { λ r. ⌜ r ≡ takenRest w (now (pool .entry)) n (p .0) k ⌝ }
 {
     if ends_taken(pool, w, n, p.0 as usize + k) {
@@ -144,7 +145,7 @@ fn taken_rest(pool: &[u8], w: u8, n: usize, p: PageNumber, k: usize) -> bool
 
 // Whether the taken run that page p begins, with the links of the word v, keeps rule 2.
 pub fn taken_whole(pool: &[u8], w: u8, n: usize, p: PageNumber, v: u64) -> bool
-    requires { ⌜ n ≤ 65535 ⌝ }
+    requires { ⌜ n ≤ noPage ⌝ }
     ensures { λ r. ⌜ r ≡ takenWhole w (now (pool .entry)) n (p .0) (unpackLinks v) ⌝ }
 {
     let l = record_page::unpack_links(v);

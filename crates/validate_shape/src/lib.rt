@@ -14,6 +14,7 @@ ghost use mathlib.Core.Bool.{true};
 ghost use Prim.Native.Nat.{ℕ, _+_, _-_, _≤_, _<_};
 ghost use lib.Dec.{eqb};
 ghost use lib.ListN.{length, getD};
+ghost use Rattle.records.specs.Layout.{noPage};
 ghost use Rattle.base.specs.Tests.{allBelow};
 ghost use Rattle.records.specs.Page.{unpackLinks};
 ghost use Rattle.rules.specs.Fields.{kind};
@@ -22,7 +23,7 @@ ghost use Rattle.rules.specs.Bytes.{pagesIn, fieldsOf};
 ghost use Rattle.validate_pages.specs.Mirror.{Counted, onesAt, classAdded, pageAdded};
 
 fn kind_is(pool: &[u8], w: u8, p: usize, want: u8) -> bool
-    requires { ⌜ p ≤ 65535 ⌝ }
+    requires { ⌜ p ≤ noPage ⌝ }
     ensures { λ r. ⌜ r ≡ eqb (kind (fieldsOf w (now (pool .entry))) p) want ⌝ }
 {
     let q = p as u16;
@@ -46,7 +47,7 @@ fn all_kind(pool: &[u8], w: u8, start: usize, want: u8, count: usize) -> bool
 
 // A run that does not fit is not walked.
 fn run_fits(pool: &[u8], w: u8, n: usize, p: usize, k: usize, inner: u8) -> bool
-    requires { ⌜ (n ≤ 65535) × (p < n) × (k ≤ 65535) ⌝ }
+    requires { ⌜ (n ≤ noPage) × (p < n) × (k ≤ noPage) ⌝ }
     ensures { λ r. ⌜ r ≡ runFits (fieldsOf w (now (pool .entry))) n p k inner ⌝ }
 {
     if !branchless::both(0 < k, p + k <= n) {
@@ -78,7 +79,7 @@ fn inside_free(pool: &[u8], w: u8, p: PageNumber) -> bool
 }
 
 fn first_free(pool: &[u8], w: u8, n: usize, p: PageNumber) -> bool
-    requires { ⌜ (n ≤ 65535) × (p .0 < n) ⌝ }
+    requires { ⌜ (n ≤ noPage) × (p .0 < n) ⌝ }
     ensures { λ r. ⌜ r ≡ firstFree (fieldsOf w (now (pool .entry))) n (p .0) ⌝ }
 {
     let l = validate_fields::links_of(pool, w, p);
@@ -91,7 +92,7 @@ fn first_free(pool: &[u8], w: u8, n: usize, p: PageNumber) -> bool
 }
 
 fn first_taken(pool: &[u8], w: u8, n: usize, p: PageNumber) -> bool
-    requires { ⌜ (n ≤ 65535) × (p .0 < n) ⌝ }
+    requires { ⌜ (n ≤ noPage) × (p .0 < n) ⌝ }
     ensures { λ r. ⌜ r ≡ firstTaken (fieldsOf w (now (pool .entry))) n (p .0) ⌝ }
 {
     let l = validate_fields::links_of(pool, w, p);
@@ -119,7 +120,7 @@ fn inside_taken(pool: &[u8], w: u8, p: PageNumber) -> bool
 }
 
 fn of_kind(pool: &[u8], w: u8, n: usize, p: PageNumber, kind: u8) -> bool
-    requires { ⌜ (n ≡ pagesIn w (now pool)) × (p .0 < n) × (n ≤ 65535) ⌝ }
+    requires { ⌜ (n ≡ pagesIn w (now pool)) × (p .0 < n) × (n ≤ noPage) ⌝ }
     ensures { λ r. ⌜ r ≡ byKind kind (insideFree (fieldsOf w (now (pool .entry))) (p .0)) (firstFree (fieldsOf w (now (pool .entry))) n (p .0)) (classPage (fieldsOf w (now (pool .entry))) (p .0)) (firstTaken (fieldsOf w (now (pool .entry))) n (p .0)) (insideTaken (fieldsOf w (now (pool .entry))) (p .0)) ⌝ }
 {
     match kind {
@@ -133,7 +134,7 @@ fn of_kind(pool: &[u8], w: u8, n: usize, p: PageNumber, kind: u8) -> bool
 }
 
 fn page_shaped(pool: &[u8], w: u8, n: usize, p: PageNumber) -> bool
-    requires { ⌜ (n ≡ pagesIn w (now pool)) × (p .0 < n) × (n ≤ 65535) ⌝ }
+    requires { ⌜ (n ≡ pagesIn w (now pool)) × (p .0 < n) × (n ≤ noPage) ⌝ }
     ensures { λ r. ⌜ r ≡ shapeAt (fieldsOf w (now (pool .entry))) n (p .0) ⌝ }
 {
     let kind = validate_fields::kind_of(pool, w, p);
@@ -142,7 +143,7 @@ fn page_shaped(pool: &[u8], w: u8, n: usize, p: PageNumber) -> bool
 
 // The class page p, with the links of the word v: the code of `validate_pages` in a function of its own, so that validation's is inlined.
 fn add_class(pool: &[u8], w: u8, n: usize, p: PageNumber, v: u64, t: &mut [u64; 11])
-    requires { ⌜ (n ≡ pagesIn w (now pool)) × (p .0 < n) × (n ≤ 65535) × (unpackLinks v .class ≤ 8) ⌝ }
+    requires { ⌜ (n ≡ pagesIn w (now pool)) × (p .0 < n) × (n ≤ noPage) × (unpackLinks v .class ≤ 8) ⌝ }
     ensures { λ _. ⌜ now (t .exit) ≡ classAdded (now (t .entry)) (unpackLinks v .class) (onesAt w (now (pool .entry)) (p .0) (unpackLinks v .class)) (unpackLinks v) ⌝ }
 {
     let l = record_page::unpack_links(v);
@@ -154,7 +155,7 @@ fn add_class(pool: &[u8], w: u8, n: usize, p: PageNumber, v: u64, t: &mut [u64; 
 
 // Counts page p, which has the links of the word v.
 fn add_page(pool: &[u8], w: u8, n: usize, p: PageNumber, v: u64, t: &mut [u64; 11])
-    requires { ⌜ (n ≡ pagesIn w (now pool)) × (p .0 < n) × (n ≤ 65535) × (unpackLinks v .kind ≡ 2 → unpackLinks v .class ≤ 8) ⌝ }
+    requires { ⌜ (n ≡ pagesIn w (now pool)) × (p .0 < n) × (n ≤ noPage) × (unpackLinks v .kind ≡ 2 → unpackLinks v .class ≤ 8) ⌝ }
     ensures { λ _. ⌜ now (t .exit) ≡ pageAdded w (now (pool .entry)) (now (t .entry)) (p .0) (unpackLinks v) ⌝ }
 {
     let l = record_page::unpack_links(v);

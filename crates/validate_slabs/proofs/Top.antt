@@ -14,7 +14,7 @@ use Rattle.base.specs.Tests.{pick, allBelow}
 use Rattle.base.proofs.AllBelow.{all-same}
 use Rattle.base.proofs.Cases.{lt?, same-test}
 use Rattle.words.specs.Word.{Bytes, word}
-use Rattle.records.specs.Layout.{pagesFrom}
+use Rattle.records.specs.Layout.{noPage, pagesFrom}
 use Rattle.maps.specs.Bitmap.{mark, bitsOf}
 use Rattle.maps.proofs.Bits.{bits-small, bits-join}
 use Rattle.maps.proofs.Words.{word-marks}
@@ -79,6 +79,6 @@ module _ (w : ℕ) (s : List ℕ) (n p c k : ℕ) (pages : n ≡ pagesIn w s) (h
       same i l = unfold pick in rw (lt-ltb i (chunks c) l, place, pages)
 
 -- what the code reads
-pub own-read : (w : ℕ) (s : List ℕ) (n p c k : ℕ) (x y : ℕ) → (n ≡ pagesIn w s) × (p < n) × (n ≤ 65535) → 8 * k ≡ mapBase w n p c → Bytes s
+pub own-read : (w : ℕ) (s : List ℕ) (n p c k : ℕ) (x y : ℕ) → (n ≡ pagesIn w s) × (p < n) × (n ≤ noPage) → 8 * k ≡ mapBase w n p c → Bytes s
     → x ≡ ownWord c → y ≡ word s k → leb x y ≡ allBelow (markAt w s p c) (own c)
 own-read w s n p c k x y h e B a b = rw (a, b) (own-top w s n p c k (h .0) (h .1) e B)

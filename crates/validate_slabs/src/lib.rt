@@ -2,6 +2,7 @@
 use records::PageNumber;
 ghost use mathlib.Core.Path.{_≡_};
 ghost use Prim.Native.Nat.{_≤_, _<_};
+ghost use Rattle.records.specs.Layout.{noPage};
 ghost use Rattle.base.specs.Tests.{allBelow};
 ghost use Rattle.model.specs.Classes.{own};
 ghost use Rattle.rules.specs.Rules.{mapFits, classPage};
@@ -10,7 +11,7 @@ ghost use Rattle.validate_slabs.specs.Mirror.{mapHolds};
 
 // Whether the map's own chunks are marked: they have the top bits of its first word.
 fn own_marked(pool: &[u8], w: u8, n: usize, p: PageNumber, c: u8) -> bool
-    requires { ⌜ (n ≡ pagesIn w (now pool)) × (p .0 < n) × (n ≤ 65535) ⌝ }
+    requires { ⌜ (n ≡ pagesIn w (now pool)) × (p .0 < n) × (n ≤ noPage) ⌝ }
     ensures { λ r. ⌜ r ≡ allBelow (markAt w (now (pool .entry)) (p .0) c) (own c) ⌝ }
 {
     let k = validate_fields::map_at(w, n, p, c);
@@ -19,7 +20,7 @@ fn own_marked(pool: &[u8], w: u8, n: usize, p: PageNumber, c: u8) -> bool
 
 // A map in the page: its own chunks are marked, and the map field is 0.
 fn paged_fits(pool: &[u8], w: u8, n: usize, p: PageNumber, c: u8) -> bool
-    requires { ⌜ (n ≡ pagesIn w (now pool)) × (p .0 < n) × (n ≤ 65535) × (c < 3) ⌝ }
+    requires { ⌜ (n ≡ pagesIn w (now pool)) × (p .0 < n) × (n ≤ noPage) × (c < 3) ⌝ }
     ensures { λ r. ⌜ r ≡ mapHolds w (now (pool .entry)) (p .0) c ⌝ }
 {
     let marked = own_marked(pool, w, n, p, c);
@@ -44,7 +45,7 @@ fn recorded_fits(pool: &[u8], w: u8, p: PageNumber, c: u8) -> bool
 }
 
 fn map_holds(pool: &[u8], w: u8, n: usize, p: PageNumber, c: u8) -> bool
-    requires { ⌜ (n ≡ pagesIn w (now pool)) × (p .0 < n) × (n ≤ 65535) ⌝ }
+    requires { ⌜ (n ≡ pagesIn w (now pool)) × (p .0 < n) × (n ≤ noPage) ⌝ }
     ensures { λ r. ⌜ r ≡ mapHolds w (now (pool .entry)) (p .0) c ⌝ }
 {
     if c < 3 {
@@ -56,7 +57,7 @@ fn map_holds(pool: &[u8], w: u8, n: usize, p: PageNumber, c: u8) -> bool
 
 // Rule 2 at page p of n, which is a class page.
 pub fn class_page(pool: &[u8], w: u8, n: usize, p: PageNumber) -> bool
-    requires { ⌜ (n ≡ pagesIn w (now pool)) × (p .0 < n) × (n ≤ 65535) ⌝ }
+    requires { ⌜ (n ≡ pagesIn w (now pool)) × (p .0 < n) × (n ≤ noPage) ⌝ }
     ensures { λ r. ⌜ r ≡ classPage (fieldsOf w (now (pool .entry))) (p .0) ⌝ }
 {
     let l = validate_fields::links_of(pool, w, p);

@@ -32,7 +32,7 @@ fn leads_back(pool: &[u8], w: u8, p: PageNumber, before: PageNumber) -> bool
 
 // Whether p is the first page of a free run.
 pub fn is_head(pool: &[u8], w: u8, n: usize, p: PageNumber) -> bool
-    requires { ⌜ n ≤ 65535 ⌝ }
+    requires { ⌜ n ≤ noPage ⌝ }
     ensures { λ r. ⌜ r ≡ isHead (fieldsOf w (now (pool .entry))) n (p .0) ⌝ }
 {
     if (p.0 as usize) < n {
@@ -42,14 +42,14 @@ pub fn is_head(pool: &[u8], w: u8, n: usize, p: PageNumber) -> bool
 }
 
 fn not_full(pool: &[u8], w: u8, n: usize, c: u8, p: PageNumber) -> bool
-    requires { ⌜ (p .0 < n) × (n ≤ 65535) ⌝ }
+    requires { ⌜ (p .0 < n) × (n ≤ noPage) ⌝ }
     ensures { λ r. ⌜ r ≡ not (isFull (now (pool .entry)) (mapBase w n (p .0) c / 8) c) ⌝ }
 {
     !map_occupancy::is_full(pool, validate_fields::map_at(w, n, p, c), c)
 }
 
 fn open_inside(pool: &[u8], w: u8, n: usize, c: u8, p: PageNumber) -> bool
-    requires { ⌜ (p .0 < n) × (n ≤ 65535) ⌝ }
+    requires { ⌜ (p .0 < n) × (n ≤ noPage) ⌝ }
     ensures { λ r. ⌜ r ≡ pick (pick (eqb (kind (fieldsOf w (now (pool .entry))) (p .0)) 2) (eqb (class (fieldsOf w (now (pool .entry))) (p .0)) c) false) (not (isFull (now (pool .entry)) (mapBase w n (p .0) c / 8) c)) false ⌝ }
 {
     let l = validate_fields::links_of(pool, w, p);
@@ -62,7 +62,7 @@ fn open_inside(pool: &[u8], w: u8, n: usize, c: u8, p: PageNumber) -> bool
 
 // Whether p is a page of class c with a clear mark.
 pub fn is_open(pool: &[u8], w: u8, n: usize, c: u8, p: PageNumber) -> bool
-    requires { ⌜ (n ≡ pagesIn w (now pool)) × (n ≤ 65535) × (c ≤ 8) × (shape (fieldsOf w (now pool)) n ≡ true) ⌝ }
+    requires { ⌜ (n ≡ pagesIn w (now pool)) × (n ≤ noPage) × (c ≤ 8) × (shape (fieldsOf w (now pool)) n ≡ true) ⌝ }
     ensures { λ r. ⌜ r ≡ openAt (fieldsOf w (now (pool .entry))) n c (p .0) ⌝ }
 {
     if (p.0 as usize) < n {
@@ -72,7 +72,7 @@ pub fn is_open(pool: &[u8], w: u8, n: usize, c: u8, p: PageNumber) -> bool
 }
 
 fn on_list(pool: &[u8], w: u8, n: usize, list: u8, p: PageNumber) -> bool
-    requires { ⌜ (n ≡ pagesIn w (now pool)) × (n ≤ 65535) × (shape (fieldsOf w (now pool)) n ≡ true) × (list ≤ 9) ⌝ }
+    requires { ⌜ (n ≡ pagesIn w (now pool)) × (n ≤ noPage) × (shape (fieldsOf w (now pool)) n ≡ true) × (list ≤ 9) ⌝ }
     ensures { λ r. ⌜ r ≡ belongs (fieldsOf w (now (pool .entry))) n list (p .0) ⌝ }
 {
     if list == 0 {
@@ -83,7 +83,7 @@ fn on_list(pool: &[u8], w: u8, n: usize, list: u8, p: PageNumber) -> bool
 
 // Follows next from `first` over `count` pages that belong on the list, after which it ends.
 pub fn follow(pool: &[u8], w: u8, n: usize, list: u8, count: usize, first: PageNumber) -> bool
-    requires { ⌜ (n ≡ pagesIn w (now pool)) × (n ≤ 65535) × (shape (fieldsOf w (now pool)) n ≡ true) × (list ≤ 9) ⌝ }
+    requires { ⌜ (n ≡ pagesIn w (now pool)) × (n ≤ noPage) × (shape (fieldsOf w (now pool)) n ≡ true) × (list ≤ 9) ⌝ }
     ensures { λ r. ⌜ r ≡ linked (belongs (fieldsOf w (now (pool .entry))) n list) (next (fieldsOf w (now (pool .entry)))) (prev (fieldsOf w (now (pool .entry)))) count noPage (first .0) ⌝ }
 {
     let mut before = PageNumber(NO_PAGE);

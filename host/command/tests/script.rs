@@ -6,7 +6,7 @@ use std::fs::File;
 use std::process::{Command, Stdio};
 
 use common::{root, Folder};
-use support::{Habit, Rng};
+use support::{Habit, Rng, UNREADABLE};
 
 /// What the proved program prints for the script in a file.
 fn proved(folder: &Folder) -> String {
@@ -49,44 +49,20 @@ fn the_worked_case() {
 #[test]
 fn lines_of_all_forms() {
     let folder = Folder::new("script-lines");
-    let forms = [
+    let served = [
         "",
         "\n",
         "\n\n",
         "take 8",
         "take 8\n\n",
         "give 0",
-        "take",
-        "take ",
-        "take  8",
-        " take 8",
-        "take 8 ",
-        "take\t8",
-        "take 8\r",
-        "take +8",
-        "take -8",
-        "take 08",
-        "take 00",
         "take 0",
-        "take 8.",
         "take 4294967295",
-        "take 4294967296",
-        "take 99999999999999999999",
-        "Take 8",
-        "taken 8",
-        "give",
-        "give +0",
-        "give 00",
-        "give 4294967296",
-        "gift 0",
-        "no 8",
-        "take 8\0",
-        "take \u{ff18}",
-        "täke 8",
         "take 49152",
         "take 49153",
     ];
-    for form in forms {
+    let forms = [&served, UNREADABLE].concat();
+    for form in &forms {
         alike(&folder, form.as_bytes());
     }
     alike(&folder, b"take \xff\ntake 8\n");

@@ -8,7 +8,7 @@ use std::process::{Command, Stdio};
 use std::thread;
 
 use reference::{alloc, format, free, run_script};
-use support::{offset, Habit, Rng, ONE};
+use support::{offset, Habit, Rng, ONE, UNREADABLE};
 
 /// What both programs print for an input: the same.
 fn program(input: &[u8]) -> Vec<u8> {
@@ -80,46 +80,7 @@ fn lines_end_in_newlines_and_the_last_may_lack_it() {
 
 #[test]
 fn whatever_is_not_of_the_form_is_unreadable() {
-    for line in [
-        " ",
-        "take",
-        "take ",
-        "take  8",
-        " take 8",
-        "take 8 ",
-        "take\t8",
-        "take 8\r",
-        "take 8\t",
-        "take +8",
-        "take -8",
-        "take 08",
-        "take 00",
-        "take 8.",
-        "take 8,000",
-        "take 0x8",
-        "take 1e3",
-        "take 4294967296",
-        "take 42949672950",
-        "take 99999999999999999999",
-        "take 184467440737095516168",
-        "Take 8",
-        "TAKE 8",
-        "taken 8",
-        "tak 8",
-        "give",
-        "give ",
-        "give  0",
-        "give 00",
-        "give 4294967296",
-        "give zero",
-        "gift 0",
-        "free 0",
-        "no 8",
-        "take\0 8",
-        "take 8\0",
-        "take \u{ff18}",
-        "täke 8",
-    ] {
+    for line in UNREADABLE {
         prints(line, &around("no 8\n"));
     }
 }

@@ -9,8 +9,10 @@ mod habit;
 mod layout;
 mod requests;
 mod rng;
+mod script;
 
 pub use habit::{mixed_size, offset, Habit};
 pub use layout::{Edition, EDITIONS, HEADER, MOST_PAGES, ONE, PAGE, PER_PAGE, RECORD, TWO};
 pub use requests::{best_in_turn, requests, serve, sum_of};
 pub use rng::Rng;
+pub use script::UNREADABLE;

@@ -11,16 +11,16 @@ use mir.Val.{Val, vunit, vbool, vint, vptr, hasTy, WT}
 use mir.Raw.{raw as rawTy}
 use lib.Dec.{T as Holds}
 use base.Logic.{SProp, ent, sep, guard, emp, via, fst∗, snd∗, exE, id⊢}
-use base.Fml.{GName, Lft, Share, Fml, ftrue, fat, fsep, flft, fres, flent}
+use base.Fml.{GName, Lft, Fml, ftrue, fat, fsep, flft, fres, flent}
 use prog.Memory.{Memory}
 use prog.Routine.{Routine}
 use prog.Wp.{Heap, Calls, Loops, WpFn, Tables}
 use ghost.Atoms.{Atoms, sem}
 use contract.Monad.{Fun, fact, fact-use}
 use contract.Running.{givenOf, tables, tablesOf}
-use types.Kit.{Given, ‵, raw, _⊛_, some, later, given, learn, _$_, _∵_, !, qed, by, move, keep, drop, use1, use2, use3, split, join, pick, fpick, fpack, fsplit, fjoin, feqL, feqI, check, suffices, frame, await, updating, now as at-once, done}
+use types.Kit.{Given, ‵, raw, _⊛_, some, later, given, learn, _$_, _∵_, !, qed, by, move, keep, use1, use2, use3, split, join, pick, fpick, fpack, fsplit, fjoin, feqL, feqI, check, suffices, frame, await, updating, now as at-once, done}
 use types.Tokens.{lft-new, lft-end}
-use types.Run.{well-typed, look, look-raw, init, forget, stop, from, load, of-opd, addr, and-then, no-more, land, assigns, returns, enter, alloc1, alloc0, params1, pass1, pass0, free1, free0}
+use types.Run.{well-typed, look, init, forget, stop, from, load, of-opd, addr, and-then, no-more, land, assigns, returns, enter, alloc1, alloc0, params1, pass1, pass0, free1, free0}
 use types.SemTy.{Body}
 use sound.WpLaws.{FmC, fmOf, WpFn-mono}
 use denote.RattleType.{owns}

@@ -1,4 +1,3 @@
-use native.Mathlib.Omega.{arith}
 use Rattle.list_heads.proofs.Words.{first-put}
 use borrow.Author.Needs.{needs}
 use Rattle.list_heads.proofs.put_first_page.Statement.{statement}

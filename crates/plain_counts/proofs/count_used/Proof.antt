@@ -1,7 +1,7 @@
-use mathlib.Core.Path.{_≡_, refl, sym, _∙_}
+use mathlib.Core.Path.{_≡_}
 use Prim.Native.Nat.{_*_, _-_, _≤_}
 use native.Mathlib.Omega.{arith}
-use Rattle.base.specs.Count.{sum, count}
+use Rattle.base.specs.Count.{sum}
 use Rattle.plain_rules.specs.Counts.{usedOnPage, usedIn}
 use Rattle.plain_counts.proofs.Counting.{sum-none, sum-more, sum-done}
 use borrow.Author.Needs.{needs}

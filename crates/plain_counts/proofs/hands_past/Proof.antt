@@ -1,10 +1,10 @@
-use mathlib.Core.Path.{_≡_, refl, sym, _∙_}
+use mathlib.Core.Path.{_≡_}
 use Prim.Native.Nat.{_-_, _≤_}
 use native.Mathlib.Omega.{arith}
-use Rattle.base.specs.Count.{sum, count}
+use Rattle.base.specs.Count.{count}
 use Rattle.plain.specs.Plain.{markOf}
 use Rattle.plain_rules.specs.Counts.{inHands}
-use Rattle.plain_counts.proofs.Counting.{count-none, count-more, count-done, sum-none, sum-more, hands-test, hands-all}
+use Rattle.plain_counts.proofs.Counting.{count-none, count-more, hands-test, hands-all}
 use borrow.Author.Needs.{needs}
 use Rattle.plain_counts.proofs.hands_past.Statement.{statement}
 use Rattle.plain_counts.proofs.hands_past.Tie as tie

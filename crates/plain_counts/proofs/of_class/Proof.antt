@@ -1,6 +1,5 @@
 use Rattle.base.proofs.Tests.{picks}
 use Rattle.plain_rules.specs.Counts.{ofClass}
-use borrow.Author.Needs.{needs}
 use Rattle.plain_counts.proofs.of_class.Statement.{statement}
 use Rattle.plain_counts.proofs.of_class.Tie as tie
 

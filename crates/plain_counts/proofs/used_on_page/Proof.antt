@@ -1,4 +1,3 @@
-use mathlib.Core.Path.{_≡_, refl, sym, _∙_}
 use Rattle.base.proofs.Tests.{picks}
 use Rattle.plain_rules.specs.Counts.{usedOnPage}
 use borrow.Author.Needs.{needs}

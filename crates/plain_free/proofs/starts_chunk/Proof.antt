@@ -1,5 +1,4 @@
 use Rattle.plain_free.proofs.Chunked.{starts-is}
-use Rattle.model.specs.Classes.{startsChunk}
 use borrow.Author.Needs.{needs}
 use Rattle.plain_free.proofs.starts_chunk.Statement.{statement}
 use Rattle.plain_free.proofs.starts_chunk.Tie as tie

@@ -1,5 +1,4 @@
 use Rattle.base.proofs.Tests.{picks}
-use native.Mathlib.Omega.{arith}
 use Rattle.plain_rules.specs.Rules.{runOk}
 use borrow.Author.Needs.{needs}
 use Rattle.plain_kinds.proofs.run_ok.Statement.{statement}

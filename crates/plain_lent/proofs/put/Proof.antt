@@ -1,6 +1,6 @@
 -- `plain_lent::put` meets its contract: a walk of its MIR, by hand. The element's place is computed, the borrow is opened, the element is taken
 -- out of the row, stored to, and put back.
-use mathlib.Core.Path.{_≡_, refl, sym, ap, subst}
+use mathlib.Core.Path.{refl, sym, ap, subst}
 use Prim.Native.Nat.{ℕ, _*_, _<_, _^_}
 use native.Mathlib.Omega.{arith}
 use mathlib.Core.List.{[], _∷_, List}
