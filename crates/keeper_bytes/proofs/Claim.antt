@@ -18,6 +18,7 @@ use Rattle.keeper_model.specs.Directory.{DirectoryOk, Sound}
 use Rattle.keeper_model.specs.Requests.{Request, Put, Find, Remove, ask}
 use Rattle.keeper_model.specs.Turns.{Map, noted, keeper, others, bytes, Fair, played, heard}
 use Rattle.keeper_model.specs.Ruling.{Agrees}
+use Rattle.keeper_model.proofs.Directory.{blank-ok}
 use Rattle.keeper_model.proofs.Lookup.{lookup-none}
 use Rattle.keeper_model.proofs.Claim.{turns-keep, map-kept, faithful as followed}
 use Rattle.keeper_words.specs.Words.{entryOf, entries}
@@ -134,16 +135,7 @@ module _ (w : ℕ) (lo : 2 ≤ w) (hi : w ≤ 255) where
         pool = X .format-sound long short;
         both = record {
           pool = subst WellFormed (sym (X .format-read long short)) (X .fresh-fits long short .well);
-          directory = subst (λ (f : ℕ → Entry). DirectoryOk (read w (formatted w s) .page) (length d) f) (sym blanks) (record {
-            some-place = low;
-            few-places = high;
-            empty-blank = λ i l z. refl;
-            key-fits = λ i l. omega arith;
-            len-fits = λ i l. omega arith;
-            keys-differ = λ i j l u y. absurd (omega arith);
-            offs-differ = λ i j l u y. absurd (omega arith);
-            in-blocks = λ i l y. absurd (omega arith);
-          });
+          directory = subst (λ (f : ℕ → Entry). DirectoryOk (read w (formatted w s) .page) (length d) f) (sym blanks) (blank-ok _ _ low high);
         };
       };
       agrees = λ key. lookup-none (storeOf w (formatted w s) d) key (λ i (l, y, k). omega (arith, no-length i));

@@ -25,7 +25,7 @@ use Rattle.keeper_model.specs.Ruling.{findRuling, removeRuling, putRulin
 use Rattle.keeper_model.specs.Claim.{TurnsKeep, MapKept, BlocksFair, Refusals, OthersBytes, Faithful, AsAMap, AsAMapFrom, Claims}
 use Rattle.keeper_model.proofs.Bytes.{bytes-ext}
 use Rattle.keeper_model.proofs.Pool.{Spares, live-kept, never-freed, refused-for-room}
-use Rattle.keeper_model.proofs.Directory.{test-says}
+use Rattle.keeper_model.proofs.Directory.{blank-ok, test-says}
 use Rattle.keeper_model.proofs.Lookup.{Holder, NoHolder, holder?, lookup-none}
 use Rattle.keeper_model.proofs.Changes.{call-sound}
 use Rattle.keeper_model.proofs.Put.{Place, put-case, put-sound, copy-off, put-other, put-same, put-ruled}
@@ -244,16 +244,7 @@ as-a-map P h b n low high ts fair =
     as-a-map-from (begin P b n)
     (record {
       pool = claims .fresh-pool P h .0;
-      directory = record {
-        some-place = low;
-        few-places = high;
-        empty-blank = λ i l z. refl;
-        key-fits = λ i l. omega arith;
-        len-fits = λ i l. omega arith;
-        keys-differ = λ i j l u x. absurd (omega arith);
-        offs-differ = λ i j l u x. absurd (omega arith);
-        in-blocks = λ i l x. absurd (omega arith);
-      };
+      directory = blank-ok _ n low high;
     })
     (λ key. lookup-none (begin P b n .store) key (λ i (l, x, k). omega arith))
     ts fair

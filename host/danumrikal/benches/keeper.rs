@@ -1,11 +1,14 @@
 //! Nanoseconds of a find and of a put that replaces a record, with few and with
 //! all places of the directory in use, beside the validation that both begin with.
 
+mod common;
+
 use std::hint::black_box;
 use std::time::Instant;
 
+use common::filled;
 use danumrikal::{check, Keeper, MOST_PLACES};
-use support::{mixed_size, Rng, ONE};
+use support::ONE;
 
 const ROUNDS: usize = 200;
 
@@ -19,26 +22,11 @@ fn best(runs: usize, mut run: impl FnMut()) -> f64 {
     (0..ROUNDS).map(round).fold(f64::INFINITY, f64::min)
 }
 
-/// A pool filled with blocks of mixed sizes, every third of them freed again.
-fn filled(pages: usize) -> Vec<u8> {
-    let mut pool = vec![0; ONE.length(pages)];
-    reference::format(&mut pool, ONE.number).expect("a length that holds pages");
-    let mut rng = Rng::new(1);
-    let mut blocks = Vec::new();
-    while let Ok(block) = reference::alloc_sound(&mut pool, mixed_size(&mut rng)) {
-        blocks.push(block);
-    }
-    for block in blocks.into_iter().step_by(3) {
-        reference::free_sound(&mut pool, block).expect("a live block");
-    }
-    pool
-}
-
 fn main() {
     println!("pages  places   validation     find      put");
     for pages in [12, 256, 4_096] {
         for places in [1, 8, MOST_PLACES] {
-            let mut pool = filled(pages);
+            let mut pool = filled(ONE.number, ONE.length(pages));
             let mut directory = vec![0; places];
             let mut keeper = Keeper::new(&mut pool, &mut directory);
             for key in 0..places as u16 {

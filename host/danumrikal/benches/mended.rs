@@ -1,28 +1,21 @@
 //! Microseconds to mend a pool whose links were lost, and to check the copy: the
 //! proved calls, and the second program's.
 
+mod common;
+
 use std::hint::black_box;
 
+use common::filled;
 use danumrikal::{check_mended, mend};
 use reference::layout::{set_next, set_previous, PageNo};
 use reference::Layout;
-use support::{best_in_turn, mixed_size, Rng, EDITIONS};
+use support::{best_in_turn, EDITIONS};
 
 const ROUNDS: usize = 25;
 
-/// A pool filled with blocks of mixed sizes, every third of them freed again, in
-/// which no page leads to another any more.
+/// A filled pool in which no page leads to another any more.
 fn damaged(edition: u8, length: usize) -> Vec<u8> {
-    let mut pool = vec![0; length];
-    reference::format(&mut pool, edition).expect("a length that holds pages");
-    let mut rng = Rng::new(1);
-    let mut blocks = Vec::new();
-    while let Ok(block) = reference::alloc_sound(&mut pool, mixed_size(&mut rng)) {
-        blocks.push(block);
-    }
-    for block in blocks.into_iter().step_by(3) {
-        reference::free_sound(&mut pool, block).expect("a live block");
-    }
+    let mut pool = filled(edition, length);
     let layout = Layout::of(&pool).expect("a pool");
     for page in (0..layout.pages).map(PageNo) {
         set_next(&mut pool, layout, page, PageNo::NONE);

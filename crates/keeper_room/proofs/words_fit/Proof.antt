@@ -1,3 +1,4 @@
+use mathlib.Core.Bool.{true}
 use mathlib.Core.Path.{sym, _∙_}
 use Prim.Native.Nat.{_-_, _≤_}
 use native.Mathlib.Omega.{arith}
@@ -7,19 +8,19 @@ use borrow.Author.Tests.{not-true, not-false}
 use Rattle.rules.specs.Bytes.{read}
 use Rattle.keeper_model.specs.Directory.{entryOk}
 use Rattle.keeper_words.specs.Words.{entries}
-use Rattle.keeper_words.proofs.Search.{Each, each-none, each-more, each-fails, each-all}
+use Rattle.keeper_words.proofs.Search.{Told, told-none, told-more, each-fails, each-all}
 use Rattle.keeper_room.proofs.words_fit.Statement.{statement}
 use Rattle.keeper_room.proofs.words_fit.Tie as tie
 
 abbrev Inv-loop : tie.InvT-loop
 Inv-loop pool w pages directory i₀ i =
-    (i ≤ length directory) × Each (λ k. entryOk (read w pool) (entries directory k)) i
+    (i ≤ length directory) × Told true (λ k. entryOk (read w pool) (entries directory k)) i
 
 abbrev μ-loop : tie.MeasureT-loop
 μ-loop pool w pages directory i₀ i = length directory - i
 
 loop-holds : tie.Need-loop-holds Inv-loop μ-loop
-loop-holds c = (omega arith, each-none _)
+loop-holds c = (omega arith, told-none _ _)
 
 mul-word : tie.Need-mul-word Inv-loop μ-loop
 mul-word c = omega arith
@@ -40,7 +41,7 @@ loop-less : tie.Need-loop-less Inv-loop μ-loop
 loop-less c = omega arith
 
 loop-again : tie.Need-loop-again Inv-loop μ-loop
-loop-again c = (omega arith, each-more _ _ (c .before .before .before .before .loop .inv .1) (sym (c .before .word-fits .ensures) ∙ not-false _ (c .if1 .left)))
+loop-again c = (omega arith, told-more _ _ _ (c .before .before .before .before .loop .inv .1) (sym (c .before .word-fits .ensures) ∙ not-false _ (c .if1 .left)))
 
 returns-2 : tie.Need-returns-2 Inv-loop μ-loop
 returns-2 c = each-all _ _ _ (omega arith) (c .before .loop .inv .1)
