@@ -35,7 +35,7 @@ pub fn alloc_sound(pool: &mut [u8], w: u8, pages: u16, size: u32) -> Allocated
     allocated(x)
 }
 
-pub fn allocated(x: u32) -> Allocated
+fn allocated(x: u32) -> Allocated
     ensures { λ r. ⌜ ofAlloc r ≡ outcomeOf x ⌝ }
 {
     if x < NOTHING_ASKED {
@@ -56,28 +56,24 @@ fn block(p: PageNumber, x: u32) -> u32
     PAGE * p.0 as u32 + x
 }
 
-// ---- peaks, in the editions that have them. They are asked for first, so that a batch asks once for all of its requests
+// ---- peaks, raised after, where the edition has them. `take` is called at one place, so that it is inlined
 
-pub fn take_block(pool: &mut [u8], w: u8, pages: u16, size: u32) -> u32
-    requires { ⌜ Whole w (now pool) pages ⌝ }
-    ensures answer { λ r. ⌜ outcomeOf r ≡ allocOutcome w (now (pool .entry)) pages size ⌝ }
-    ensures slice { λ _. ⌜ now (pool .exit) ≡ allocSlice w (now (pool .entry)) pages size ⌝ }
-{
-    if 2 < w {
-        take_peaked(pool, w, pages, size)
-    } else {
-        take(pool, w, pages, size)
-    }
-}
-
-fn take_peaked(pool: &mut [u8], w: u8, pages: u16, size: u32) -> u32
+fn take_block(pool: &mut [u8], w: u8, pages: u16, size: u32) -> u32
     requires { ⌜ Whole w (now pool) pages ⌝ }
     ensures answer { λ r. ⌜ outcomeOf r ≡ allocOutcome w (now (pool .entry)) pages size ⌝ }
     ensures slice { λ _. ⌜ now (pool .exit) ≡ allocSlice w (now (pool .entry)) pages size ⌝ }
 {
     let taken = take(pool, w, pages, size);
-    raise_for(pool, w, size);
+    raise_where_kept(pool, w, size);
     taken
+}
+
+fn raise_where_kept(pool: &mut [u8], w: u8, size: u32)
+    ensures { λ _. ⌜ now (pool .exit) ≡ peakFor w (now (pool .entry)) size ⌝ }
+{
+    if 2 < w {
+        raise_for(pool, w, size);
+    }
 }
 
 // The peak of the size's class follows.

@@ -13,6 +13,7 @@ use Rattle.answer_words.specs.Word.{wordOf}
 use Rattle.model.specs.Calls.{Call}
 use Rattle.model.specs.Live.{Block}
 use Rattle.rules.specs.Bytes.{brokenRule}
+use Rattle.serve.proofs.Order.{left-append, replies-append, length-replies}
 use Rattle.demands.specs.Demands.{Reached}
 use Rattle.demands.specs.Examples.{sliceAfter}
 use Rattle.demands.proofs.Calls.{demand1}
@@ -21,9 +22,8 @@ use Rattle.demands.proofs.BookCorollaries.{next}
 use Rattle.batch.specs.Batch.{callIn, outcomeOn, sliceOn, replyTo, leftBy, replies, leftByAll, batchPool, batchAnswers}
 use Rattle.batch.specs.Claim.{withCall, callsIn, outcomeIn, fedWith, fedAll, Served, Claims}
 use Rattle.sound_pools.specs.Sound.{Validated}
-use Rattle.batch.proofs.Serving.{stays-valid}
+use Rattle.batch.proofs.Serving.{in-order, stays-valid}
 use Rattle.batch.proofs.Whole.{is-short, is-unsound, is-granted, pool-is, answers-are}
-use Rattle.batch.proofs.Order.{left-append, replies-append, length-replies}
 use Rattle.batch.proofs.Words.{told}
 
 -- ---- single calls
@@ -58,7 +58,7 @@ module _ (w : ℕ) where
       unfolding replyTo
       is-served xs a h =
           let e = answers-are w s xs a h sound in
-          let n = length-replies w s xs in
+          let n = length-replies (in-order w) s xs in
           record {
             outcome = is-granted w s xs a h sound;
             pool = pool-is w s xs a h sound ∙ single-calls s xs;
@@ -71,13 +71,13 @@ module _ (w : ℕ) where
           at-request : (i : ℕ) → i < length xs →
               getD (replies w s xs ++ drop (length xs) a) i 0 ≡ wordOf (outcomeOn w (sliceAfter w s (callsIn (take i xs))) (callIn (getD xs i 0)))
           at-request i l =
-              List·getD-append (replies w s xs) (drop (length xs) a) 0 i (rw (length-replies w s xs) l)
+              List·getD-append (replies w s xs) (drop (length xs) a) 0 i (rw (length-replies (in-order w) s xs) l)
               ∙ reply-at s xs i l
               ∙ ap (λ (u : List ℕ). replyTo w u (getD xs i 0)) (single-calls s (take i xs))
 
           past-requests : (i : ℕ) → length xs ≤ i → getD (replies w s xs ++ drop (length xs) a) i 0 ≡ getD a i 0
           past-requests i l =
-              let n = length-replies w s xs in
+              let n = length-replies (in-order w) s xs in
               let e : i ≡ length (replies w s xs) + (i - length xs) = omega arith in
               ap (λ (k : ℕ). getD (replies w s xs ++ drop (length xs) a) k 0) e
               ∙ getD-append-add (replies w s xs) (drop (length xs) a) (i - length xs) 0
@@ -109,9 +109,9 @@ module _ (w : ℕ) where
               let t = leftByAll w s xs in
               let y = still-sound z xs in
               let first : batchAnswers w s xs a ≡ replies w s xs = answers-are w s xs a (omega arith) z ∙ rw no-more (append-nil (replies w s xs)) in (
-                pool-is w s (xs ++ ys) (a ++ b) room z ∙ left-append w s xs ys ∙ sym (rw p (pool-is w t ys b h y)),
+                pool-is w s (xs ++ ys) (a ++ b) room z ∙ left-append (in-order w) s xs ys ∙ sym (rw p (pool-is w t ys b h y)),
                 answers-are w s (xs ++ ys) (a ++ b) room z
-                    ∙ rw (replies-append w s xs ys, rest, p, first, answers-are w t ys b h y) (append-assoc (replies w s xs) (replies w t ys) (drop (length ys) b)),
+                    ∙ rw (replies-append (in-order w) s xs ys, rest, p, first, answers-are w t ys b h y) (append-assoc (replies w s xs) (replies w t ys) (drop (length ys) b)),
               )
           go (inr n) =
               let whole = is-unsound w s (xs ++ ys) (a ++ b) room n in

@@ -1,61 +1,59 @@
--- One request on validated records: what the code does is what the definitions say, and the records stay sound.
-use mathlib.Core.Path.{_≡_, ap, _∙_}
-use mathlib.Core.Logic.{_≢_}
-use mathlib.Core.List.{List}
+-- Requests on validated records: what the loop does is what the definitions say, and the records stay sound.
+use mathlib.Core.Path.{_≡_, refl, ap}
+use mathlib.Core.Bool.{Bool, true, false}
+use mathlib.Core.List.{List, [], _∷_}
 use mathlib.Core.Option.{Option, none, some}
 use Prim.Native.Nat.{ℕ, _/_, _%_}
-use borrow.Author.Tests.{eq-eqb, ne-eqb}
-use Rattle.base.proofs.AllBelow.{pick-yes, pick-no}
-use Rattle.answers.specs.Outcome.{Outcome, refused}
+use lib.Dec.{eqb}
+use Rattle.base.specs.Tests.{pick}
+use Rattle.answers.specs.Outcome.{refused}
 use Rattle.answers.specs.declared.Refusal.the-variants.{Unreadable}
 use Rattle.answer_words.specs.Word.{wordOf}
 use Rattle.model.specs.Calls.{Call, Alloc, Free}
 use Rattle.alloc_sound.specs.Mirror.{allocOutcome, allocSlice}
 use Rattle.free_sound.specs.Mirror.{freeOutcome, freeSlice}
-use Rattle.demands.specs.Calls.{answered, after}
+use Rattle.serve.specs.Mirror.{askedOutcome, askedSlice, servedWord, servedSlice, servedWords, servedAll}
+use Rattle.serve.proofs.Order.{InOrder}
 use Rattle.sound_pools.specs.Sound.{Validated}
 use Rattle.sound_pools.proofs.Validated.{alloc-does, free-does, valid-after}
-use Rattle.batch.specs.Batch.{callIn, outcomeOn, sliceOn, replyTo, leftBy}
+use Rattle.batch.specs.Batch.{callIn, outcomeOn, sliceOn, replyTo, leftBy, replies, leftByAll}
 
--- ---- a call
+pub in-order : (w : ℕ) → InOrder (replyTo w) (leftBy w) (replies w) (leftByAll w)
+unfolding replies leftByAll
+in-order w = record { no-reply = λ s. refl; one-reply = λ s x xs. refl; none-left = λ s. refl; one-left = λ s x xs. refl }
 
-module _ {w : ℕ} {s : List ℕ} {pages : ℕ} (G : Validated w s pages) where
-  module _ {word : ℕ} {o : Outcome} {u : List ℕ} (r : word ≡ wordOf o) where
-    pub alloc-served : (size : ℕ) → o ≡ allocOutcome w s pages size → u ≡ allocSlice w s pages size →
-        (word ≡ wordOf (answered w s (Alloc size))) × (u ≡ after w s (Alloc size))
-    alloc-served size a b = let M = alloc-does G size in (r ∙ ap wordOf (a ∙ M .0), b ∙ M .1)
+module _ {w pages : ℕ} where
+  module _ {s : List ℕ} (G : Validated w s pages) where
+    -- the records stay sound
+    pub stays-valid : (x : ℕ) → Validated w (leftBy w s x) pages
+    unfolding leftBy
+    stays-valid x = go (callIn x)
+      where
+        go : (q : Option Call) → Validated w (sliceOn w s q) pages
+        go none = G
+        go (some call) = valid-after G call
 
-    pub free-served : (off : ℕ) → o ≡ freeOutcome w s pages off → u ≡ freeSlice w s pages off →
-        (word ≡ wordOf (answered w s (Free off))) × (u ≡ after w s (Free off))
-    free-served off a b = let M = free-does G off in (r ∙ ap wordOf (a ∙ M .0), b ∙ M .1)
+    -- the tests of the upper half lead to the call that the word asks for
+    asked : (t u : Bool) (low : ℕ) →
+        (pick t (allocOutcome w s pages low) (pick u (freeOutcome w s pages low) (refused Unreadable)) ≡
+        outcomeOn w s (pick t (some (Alloc low)) (pick u (some (Free low)) none))) ×
+        (pick t (allocSlice w s pages low) (pick u (freeSlice w s pages low) s) ≡ sliceOn w s (pick t (some (Alloc low)) (pick u (some (Free low)) none)))
+    unfolding pick
+    asked true u low = alloc-does G low
+    asked false true low = free-does G low
+    asked false false low = (refl, refl)
 
-  -- the records stay sound
-  pub stays-valid : (x : ℕ) → Validated w (leftBy w s x) pages
-  unfolding leftBy
-  stays-valid x = go (callIn x)
-    where
-      go : (q : Option Call) → Validated w (sliceOn w s q) pages
-      go none = G
-      go (some call) = valid-after G call
+    served : (x : ℕ) → (servedWord w pages s x ≡ replyTo w s x) × (servedSlice w pages s x ≡ leftBy w s x)
+    unfolding askedOutcome askedSlice servedWord servedSlice callIn replyTo leftBy
+    served x =
+        let a = asked (eqb (x / 4294967296) 0) (eqb (x / 4294967296) 2147483648) (x % 4294967296) in
+        (ap wordOf (a .0), a .1)
 
--- ---- a word
-
-module _ (w : ℕ) (s : List ℕ) (x : ℕ) (word : ℕ) (u : List ℕ) where
-  reads : (q : Option Call) → callIn x ≡ q → (word ≡ wordOf (outcomeOn w s q)) × (u ≡ sliceOn w s q) → (word ≡ replyTo w s x) × (u ≡ leftBy w s x)
-  unfolding replyTo leftBy
-  reads q e p = rw e p
-
-  pub alloc-read : x / 4294967296 ≡ 0 → (word ≡ wordOf (answered w s (Alloc (x % 4294967296)))) × (u ≡ after w s (Alloc (x % 4294967296))) →
-      (word ≡ replyTo w s x) × (u ≡ leftBy w s x)
-  unfolding callIn
-  alloc-read e = reads (some (Alloc (x % 4294967296))) (pick-yes _ _ _ (eq-eqb _ _ e))
-
-  module _ (n : x / 4294967296 ≢ 0) where
-    pub free-read : x / 4294967296 ≡ 2147483648 → (word ≡ wordOf (answered w s (Free (x % 4294967296)))) × (u ≡ after w s (Free (x % 4294967296))) →
-        (word ≡ replyTo w s x) × (u ≡ leftBy w s x)
-    unfolding callIn
-    free-read e = reads (some (Free (x % 4294967296))) (pick-no _ _ _ (ne-eqb _ _ n) ∙ pick-yes _ _ _ (eq-eqb _ _ e))
-
-    pub stray-read : x / 4294967296 ≢ 2147483648 → word ≡ wordOf (refused Unreadable) → u ≡ s → (word ≡ replyTo w s x) × (u ≡ leftBy w s x)
-    unfolding callIn
-    stray-read m e f = reads none (pick-no _ _ _ (ne-eqb _ _ n) ∙ pick-no _ _ _ (ne-eqb _ _ m)) (e, f)
+  pub all-served : {s : List ℕ} → Validated w s pages → (xs : List ℕ) →
+      (servedWords w pages s xs ≡ replies w s xs) × (servedAll w pages s xs ≡ leftByAll w s xs)
+  unfolding servedWords servedAll replies leftByAll
+  all-served G [] = (refl, refl)
+  all-served {s} G (x ∷ xs) =
+      let one = served G x in
+      let rest = all-served (stays-valid G x) xs in
+      (rw (one .0, one .1) (ap (λ (l : List ℕ). replyTo w s x ∷ l) (rest .0)), rw (one .1) (rest .1))

@@ -12,8 +12,11 @@ use Rattle.answers.specs.Outcome.{Outcome, numberOf, granted, refused}
 use Rattle.answers.specs.declared.Refusal.{Refusal}
 use Rattle.answers.specs.declared.Refusal.the-variants.{NotSound, AnswersTooShort}
 use Rattle.rules.specs.Bytes.{brokenRule}
+use Rattle.serve.specs.Mirror.{servedWords, servedAll}
+use Rattle.sound_pools.specs.Sound.{Validated}
 use Rattle.batch.specs.Batch.{replies, leftByAll, batchOutcome, batchPool, batchAnswers}
 use Rattle.batch.specs.Claim.{Refused}
+use Rattle.batch.proofs.Serving.{all-served}
 
 module _ (w : ℕ) (s requests answers : List ℕ) where
   pub is-refused : (r : Refusal) → batchOutcome w s requests answers ≡ refused r → eqb (numberOf r) 0 ≡ false → Refused w s requests answers r
@@ -44,6 +47,10 @@ module _ (w : ℕ) (s requests answers : List ℕ) where
       unfolding batchAnswers
       answers-are = pick-yes _ _ _ (ap (λ (o : Outcome). eqb (o .number) 0) is-granted)
 
-      pub is-done : (u a : List ℕ) → u ≡ leftByAll w s requests → a ≡ replies w s requests ++ drop (length requests) answers →
-          (granted 0 ≡ batchOutcome w s requests answers) × ((u ≡ batchPool w s requests answers) × (a ≡ batchAnswers w s requests answers))
-      is-done u a e f = (sym is-granted, (e ∙ sym pool-is, f ∙ sym answers-are))
+    pub is-done : {pages : ℕ} → Validated w s pages → (u a : List ℕ) →
+        u ≡ servedAll w pages s requests → a ≡ servedWords w pages s requests ++ drop (length requests) answers →
+        (granted 0 ≡ batchOutcome w s requests answers) × ((u ≡ batchPool w s requests answers) × (a ≡ batchAnswers w s requests answers))
+    is-done G u a e f =
+        let z = G .pool .sound in
+        let all = all-served G requests in
+        (sym (is-granted z), (e ∙ all .1 ∙ sym (pool-is z), f ∙ ap (λ (l : List ℕ). l ++ drop (length requests) answers) (all .0) ∙ sym (answers-are z)))

@@ -27,7 +27,7 @@ pub fn alloc(pool: &mut [u8], w: u8, size: u32) -> Allocated
         return Allocated::Refused(Refusal::NotSound);
     }
     let pages = pages_in(w, pool.len());
-    alloc_sound::alloc_sound(pool, w, pages, size)
+    serve::alloc_sound(pool, w, pages, size)
 }
 
 // Gives back the block that starts at the offset: the bytes released, or the refusal.
@@ -40,5 +40,5 @@ pub fn free(pool: &mut [u8], w: u8, at: Offset) -> Freed
         return Freed::Refused(Refusal::NotSound);
     }
     let pages = pages_in(w, pool.len());
-    free_sound::free_sound(pool, w, pages, at)
+    serve::free_sound(pool, w, pages, at)
 }

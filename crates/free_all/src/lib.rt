@@ -89,7 +89,7 @@ fn free_each(pool: &mut [u8], w: u8, pages: u16, offsets: &[u32])
     let mut i = 0;
     while i < offsets.len() {
         let x = offsets[i];
-        free_sound::free_sound(pool, w, pages, Offset(x));
+        serve::free_sound(pool, w, pages, Offset(x));
         i += 1;
     }
 }

@@ -161,5 +161,5 @@ fn take_out(pool: &mut [u8], w: u8, pages: u16, directory: &mut [u64], i: usize)
     let word = directory[i];
     directory[i] = 0;
     let off = keeper_words::off_of(word);
-    free_sound::free_sound(pool, w, pages, Offset(off))
+    serve::free_sound(pool, w, pages, Offset(off))
 }

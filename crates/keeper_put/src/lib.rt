@@ -8,7 +8,6 @@ ghost use lib.ListN.{length, set};
 ghost use Rattle.records.specs.Layout.{pagesFrom};
 ghost use Rattle.answers.specs.Outcome.{granted, ofAlloc};
 ghost use Rattle.classes.specs.Mirror.{Whole};
-ghost use Rattle.alloc_sound.specs.Mirror.{allocOutcome, allocSlice};
 ghost use Rattle.model.specs.Calls.{Alloc};
 ghost use Rattle.demands.specs.Calls.{answered};
 ghost use Rattle.keeper_words.specs.Words.{wordOf, entryOf, entries};
@@ -31,18 +30,8 @@ pub fn put_in(
     ensures directory { λ _. ⌜ now (directory .exit) ≡ putAnswered w (now (pool .entry)) (now (directory .entry)) i key (now (bytes .entry)) (answered w (now (pool .entry)) (Alloc (length (now (bytes .entry))))) .words ⌝ }
 {
     let size = bytes.len() as u32;
-    let a = alloc(pool, w, pages, size);
+    let a = serve::alloc_sound(pool, w, pages, size);
     store(pool, w, pages, directory, i, key, bytes, a)
-}
-
-// `alloc_sound` in a function of its own: batch, as the only caller of that one, has it inlined.
-fn alloc(pool: &mut [u8], w: u8, pages: u16, size: u32) -> Allocated
-    requires { ⌜ Whole w (now pool) pages ⌝ }
-    ensures answer { λ r. ⌜ ofAlloc r ≡ allocOutcome w (now (pool .entry)) pages size ⌝ }
-    ensures slice { λ _. ⌜ now (pool .exit) ≡ allocSlice w (now (pool .entry)) pages size ⌝ }
-{
-    let x = alloc_sound::take_block(pool, w, pages, size);
-    alloc_sound::allocated(x)
 }
 
 // As the pool has answered.
@@ -107,5 +96,5 @@ fn give_old(pool: &mut [u8], w: u8, pages: u16, old: u64)
         return;
     }
     let off = keeper_words::off_of(old);
-    free_sound::free_sound(pool, w, pages, Offset(off));
+    serve::free_sound(pool, w, pages, Offset(off));
 }

@@ -27,7 +27,7 @@ module _ (w : ℕ) (s : List ℕ) (t : Bool) (e : t ≡ eqb (brokenRule w s) 0) 
   pub unsound-told : not t ≡ true → brokenRule w s ≢ 0
   unsound-told n = eqb-false _ _ (sym e ∙ not-true t n)
 
-  pub sound-told : not t ≡ false → brokenRule w s ≡ 0
+  sound-told : not t ≡ false → brokenRule w s ≡ 0
   sound-told n = eqb-true _ _ (sym e ∙ not-false t n)
 
   pub validated : 2 ≤ w → w ≤ 255 → Bytes s → not t ≡ false → (pages : ℕ) → pages ≡ pageCount w (length s) % 65536 → Validated w s pages

@@ -1,7 +1,7 @@
 use mathlib.Core.Path.{sym}
 use native.Mathlib.Omega.{arith}
 use borrow.Author.Needs.{needs}
-use Rattle.sound_pools.proofs.Validated.{unsound-told, sound-told, validated}
+use Rattle.sound_pools.proofs.Validated.{unsound-told, validated, whole}
 use Rattle.batch.proofs.Whole.{is-short, is-unsound, is-done}
 use Rattle.batch.proofs.batch.Statement.{statement}
 use Rattle.batch.proofs.batch.Tie as tie
@@ -34,7 +34,7 @@ serve-all-requires c κs =
     let tested = counted .before in
     let known = c .before .before .before .before .before .before .before .before .before in
     let a = known .before .args in
-    (validated (a .w) (a .pool .now) (tested .before .validate .result) (tested .before .validate .ensures) (known .before .pre) (omega arith) (λ i. known .slice-known .given i .fits) (tested .if2 .left) (counted .pages-in .result) (counted .pages-in .ensures), omega arith)
+    (whole (validated (a .w) (a .pool .now) (tested .before .validate .result) (tested .before .validate .ensures) (known .before .pre) (omega arith) (λ i. known .slice-known .given i .fits) (tested .if2 .left) (counted .pages-in .result) (counted .pages-in .ensures)), omega arith)
 
 same-length-2 : tie.Need-same-length-2
 same-length-2 c = search needs
@@ -45,10 +45,12 @@ same-length-3 c = search needs
 returns-3 : tie.Need-returns-3
 returns-3 c =
     let served = c .before .before .before .before in
-    let tested = c .before .before .before .before .before .before .before .before in
-    let a = c .before .before .before .before .before .before .before .before .before .before .before .before .before .before .before .args in
-    let z = sound-told (a .w) (a .pool .now) (tested .before .validate .result) (tested .before .validate .ensures) (tested .if2 .left) in
-    is-done (a .w) (a .pool .now) (a .requests .now) (a .answers .now) (omega arith) z _ _ (served .serve-all .ensures .0) (served .serve-all .ensures .1)
+    let counted = served .before .before .before in
+    let tested = counted .before in
+    let known = c .before .before .before .before .before .before .before .before .before .before .before .before .before .before in
+    let a = known .before .args in
+    let G = validated (a .w) (a .pool .now) (tested .before .validate .result) (tested .before .validate .ensures) (known .before .pre) (omega arith) (λ i. known .slice-known .given i .fits) (tested .if2 .left) (counted .pages-in .result) (counted .pages-in .ensures) in
+    is-done (a .w) (a .pool .now) (a .requests .now) (a .answers .now) (omega arith) G _ _ (served .serve-all .ensures .0) (served .serve-all .ensures .1)
 
 pub batch-spec : {M : Type 1} → statement M
 batch-spec =

@@ -9,13 +9,13 @@ use Rattle.keeper_put.proofs.put_in.Tie as tie
 cast-size : tie.Need-cast-size
 cast-size c = search needs
 
-alloc-requires : tie.Need-alloc-requires
-alloc-requires c κs = whole (c .before .before .before .before .pre .0 .validated)
+alloc-sound-requires : tie.Need-alloc-sound-requires
+alloc-sound-requires c κs = whole (c .before .before .before .before .pre .0 .validated)
 
 store-requires : tie.Need-store-requires
 store-requires c κs =
     let b = c .before .before .before .before .before .before .before .before .before in
-    let a = c .before .before .before .before .alloc in
+    let a = c .before .before .before .before .alloc-sound in
     let T = taken-met (b .pre .0) _ (a .ensures .0) (a .ensures .1) in (
       rw (T .1) (taken-whole (b .pre .0) _),
       b .pre .1 .inside,
@@ -32,7 +32,7 @@ same-length-2 c = search needs
 returns : tie.Need-returns
 returns c =
     let b = c .before .before .before .before .before .before .before .before .before .before .before .before .before .before in
-    let a = c .before .before .before .before .before .before .before .before .before .alloc in
+    let a = c .before .before .before .before .before .before .before .before .before .alloc-sound in
     let stored = c .before .before .before .before .store .ensures in
     let T = taken-met (b .pre .0) _ (a .ensures .0) (a .ensures .1) in
     let M = put-met (b .pre .0) (b .pre .1) (omega (arith, b .fits .key)) (λ j. c .before .before .before .before .before .before .before .before .before .before .before .shared-slice-known .given j .fits) (a .result) (T .0) in
@@ -41,4 +41,4 @@ returns c =
 pub put-in-spec : {M : Type 1} → statement M
 put-in-spec =
     tie.close
-    (tie.spec cast-size alloc-requires store-requires same-length same-length-2 returns)
+    (tie.spec cast-size alloc-sound-requires store-requires same-length same-length-2 returns)
