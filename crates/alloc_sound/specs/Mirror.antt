@@ -1,5 +1,6 @@
 -- Alloc on sound records, in the bytes of a pool of P pages: what is answered and what is left, in the order of the code.
 use Prim.Native.Nat.{ℕ, _+_, _*_, _%_}
+use mathlib.Core.Bool.{Bool, false}
 use mathlib.Core.List.{List}
 use lib.Dec.{eqb, leb, ltb}
 use Rattle.base.specs.Tests.{pick}
@@ -80,6 +81,17 @@ pagesSlice w s P k = runSlice w s k (fitIn w s P k)
 
 unfoldable pub allocOutcome : (w : ℕ) (s : List ℕ) (P n : ℕ) → Outcome
 allocOutcome w s P n = pick (eqb n 0) (refused NothingAsked) (pick (leb n 2048) (classOutcome w s P (classFor n)) (pagesOutcome w s P (pagesFor n)))
+
+-- a chunk of the size's class
+unfoldable pub takesChunk : ℕ → Bool
+takesChunk n = pick (eqb n 0) false (leb n 2048)
+
+-- where no page on a list serves the size
+unfoldable pub runsOutcome : (w : ℕ) (s : List ℕ) (P n : ℕ) → Outcome
+runsOutcome w s P n = pick (eqb n 0) (refused NothingAsked) (pick (leb n 2048) (newOutcome w s P (classFor n)) (pagesOutcome w s P (pagesFor n)))
+
+unfoldable pub runsSlice : (w : ℕ) (s : List ℕ) (P n : ℕ) → List ℕ
+runsSlice w s P n = pick (eqb n 0) s (pick (leb n 2048) (newSlice w s P (classFor n)) (pagesSlice w s P (pagesFor n)))
 
 -- all but the peak
 unfoldable pub takeSlice : (w : ℕ) (s : List ℕ) (P n : ℕ) → List ℕ

@@ -17,7 +17,7 @@ ghost use Rattle.run_extents.specs.Mirror.{runTaken};
 ghost use Rattle.classes.specs.Mirror.{Whole, chunkRefused};
 ghost use Rattle.chunks.specs.Mirror.{pageCut};
 ghost use Rattle.class_peaks.specs.Mirror.{peakRaised};
-ghost use Rattle.alloc_sound.specs.Mirror.{chunkOutcome, chunkSlice, firstOutcome, cutOutcome, cutSlice, newOutcome, newSlice, fromOutcome, fromSlice, classOutcome, classSlice, runOutcome, runSlice, pagesOutcome, pagesSlice, takeSlice, peakFor, allocOutcome, allocSlice, outcomeOf};
+ghost use Rattle.alloc_sound.specs.Mirror.{chunkOutcome, chunkSlice, firstOutcome, cutOutcome, cutSlice, newOutcome, newSlice, fromOutcome, fromSlice, classOutcome, classSlice, runOutcome, runSlice, pagesOutcome, pagesSlice, takesChunk, runsOutcome, runsSlice, takeSlice, peakFor, allocOutcome, allocSlice, outcomeOf};
 
 // Blocks are passed up as their offset in a plain number, for which no field is packed and unpacked on the way; two numbers past every
 // offset refuse.
@@ -97,16 +97,38 @@ fn raise_small(pool: &mut [u8], w: u8, size: u32)
 
 // ---- all but the peak
 
+// A chunk of a page on the list is the usual way, and is short by itself: all else stands in a function of its own, called at two places and
+// so not inlined.
 fn take(pool: &mut [u8], w: u8, pages: u16, size: u32) -> u32
     requires { ⌜ Whole w (now pool) pages ⌝ }
     ensures answer { λ r. ⌜ outcomeOf r ≡ allocOutcome w (now (pool .entry)) pages size ⌝ }
     ensures slice { λ _. ⌜ now (pool .exit) ≡ takeSlice w (now (pool .entry)) pages size ⌝ }
 {
+    if takes_chunk(size) {
+        alloc_small(pool, w, pages, size)
+    } else {
+        from_runs(pool, w, pages, size)
+    }
+}
+
+// Both ends by one comparison: 0 wraps past every size.
+fn takes_chunk(size: u32) -> bool
+    ensures { λ r. ⌜ r ≡ takesChunk size ⌝ }
+{
+    let x = std::num::wrapping_sub_u32(size, 1);
+    x < LARGEST_CHUNK
+}
+
+// From the free runs: the first chunk of a new page, or whole pages. A size of 0 is refused here too.
+fn from_runs(pool: &mut [u8], w: u8, pages: u16, size: u32) -> u32
+    ensures answer { λ r. ⌜ outcomeOf r ≡ runsOutcome w (now (pool .entry)) pages size ⌝ }
+    ensures slice { λ _. ⌜ now (pool .exit) ≡ runsSlice w (now (pool .entry)) pages size ⌝ }
+{
     if size == 0 {
         return NOTHING_ASKED;
     }
     if size <= LARGEST_CHUNK {
-        alloc_small(pool, w, pages, size)
+        new_chunk(pool, w, pages, size)
     } else {
         alloc_large(pool, w, pages, size)
     }
@@ -120,29 +142,21 @@ fn alloc_small(pool: &mut [u8], w: u8, pages: u16, size: u32) -> u32
     ensures slice { λ _. ⌜ now (pool .exit) ≡ classSlice w (now (pool .entry)) pages (classFor size) ⌝ }
 {
     let c = sizes::class_for(size);
-    chunk_of_class(pool, w, pages, c)
-}
-
-fn chunk_of_class(pool: &mut [u8], w: u8, pages: u16, c: u8) -> u32
-    requires { ⌜ (c ≤ 8) × Whole w (now pool) pages ⌝ }
-    ensures answer { λ r. ⌜ outcomeOf r ≡ classOutcome w (now (pool .entry)) pages c ⌝ }
-    ensures slice { λ _. ⌜ now (pool .exit) ≡ classSlice w (now (pool .entry)) pages c ⌝ }
-{
     let p = record_class::get_first_in(pool, w, c);
-    chunk_from(pool, w, pages, c, p)
+    chunk_from(pool, w, pages, size, c, p)
 }
 
-// Of page p, the first on the class list, or of a new page where the list is empty. The test is against the page count, which says
+// Of page p, the first on the list of class c, or of a new page where the list is empty. The test is against the page count, which says
 // both that there is a page and that its record is whole.
-fn chunk_from(pool: &mut [u8], w: u8, pages: u16, c: u8, p: PageNumber) -> u32
-    requires { ⌜ (c ≤ 8) × Whole w (now pool) pages ⌝ }
+fn chunk_from(pool: &mut [u8], w: u8, pages: u16, size: u32, c: u8, p: PageNumber) -> u32
+    requires { ⌜ (1 ≤ size) × (size ≤ 2048) × (c ≡ classFor size) × (c ≤ 8) × Whole w (now pool) pages ⌝ }
     ensures answer { λ r. ⌜ outcomeOf r ≡ fromOutcome w (now (pool .entry)) pages c (p .0) ⌝ }
     ensures slice { λ _. ⌜ now (pool .exit) ≡ fromSlice w (now (pool .entry)) pages c (p .0) ⌝ }
 {
     if p.0 < pages {
         chunk_of_page(pool, w, pages, c, p)
     } else {
-        new_page(pool, w, pages, c)
+        from_runs(pool, w, pages, size)
     }
 }
 
@@ -155,6 +169,15 @@ fn chunk_of_page(pool: &mut [u8], w: u8, pages: u16, c: u8, p: PageNumber) -> u3
     let i = chunk_alloc::alloc_chunk(pool, w, pages, c, p);
     let x = sizes::chunk_start(c, i);
     block(p, x)
+}
+
+fn new_chunk(pool: &mut [u8], w: u8, pages: u16, size: u32) -> u32
+    requires { ⌜ (1 ≤ size) × (size ≤ 2048) ⌝ }
+    ensures answer { λ r. ⌜ outcomeOf r ≡ newOutcome w (now (pool .entry)) pages (classFor size) ⌝ }
+    ensures slice { λ _. ⌜ now (pool .exit) ≡ newSlice w (now (pool .entry)) pages (classFor size) ⌝ }
+{
+    let c = sizes::class_for(size);
+    new_page(pool, w, pages, c)
 }
 
 fn new_page(pool: &mut [u8], w: u8, pages: u16, c: u8) -> u32

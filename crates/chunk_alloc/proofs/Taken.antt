@@ -11,6 +11,7 @@ use Rattle.base.specs.Tests.{pick}
 use Rattle.base.proofs.AllBelow.{pick-yes, pick-no}
 use Rattle.base.proofs.Search.{least-spec}
 use Rattle.records.specs.Layout.{tallyPlace}
+use Rattle.records.specs.Page.{linksAt}
 use Rattle.maps.specs.Bitmap.{mark, withMark}
 use Rattle.maps.specs.Mirror.{lowestClear}
 use Rattle.rules.specs.Bytes.{mapBase}
@@ -18,38 +19,42 @@ use Rattle.map_count.specs.Mirror.{mapBits}
 use Rattle.map_occupancy.specs.Mirror.{bitFor, lastFree}
 use Rattle.map_occupancy.proofs.Words.{bits-most, whole-words, words-paged}
 use Rattle.map_places.proofs.Places.{base-word}
-use Rattle.classes.specs.Mirror.{Whole, mapWord, countUsed}
+use Rattle.classes.specs.Mirror.{Whole, mapWord, countUsed, countUsedFirst}
 use Rattle.classes.proofs.Numbers.{tally-whole, map-whole}
-use Rattle.chunks.specs.Mirror.{setAside, fullLeaves, takenAt, chunkTaken}
+use Rattle.chunks.specs.Mirror.{setAside, takenCounted, takenAt, chunkTaken}
 use Rattle.chunks.proofs.Marks.{paged-marked, recorded-marked}
 
 module _ (w : ℕ) (s : List ℕ) (c p k i : ℕ) (out : List ℕ) (r : Bool) (told : r ≡ lastFree s k c i) where
-  leaves : r ≡ true → fullLeaves w s c p (lastFree s k c i) ≡ setAside w s c p
-  unfolding fullLeaves
+  -- what the last free chunk leaves but for its mark
+  abbrev last : List ℕ
+  last = countUsedFirst w (setAside w s c p) c (linksAt w s p .next .0)
+
+  leaves : r ≡ true → takenCounted w s c p (lastFree s k c i) ≡ last
+  unfolding takenCounted
   leaves t = pick-yes _ _ _ (sym told ∙ t)
 
-  stays : r ≡ false → fullLeaves w s c p (lastFree s k c i) ≡ s
-  unfolding fullLeaves
+  stays : r ≡ false → takenCounted w s c p (lastFree s k c i) ≡ countUsed w s c
+  unfolding takenCounted
   stays t = pick-no _ _ _ (sym told ∙ t)
 
-  -- t has the lists as they are to be
-  at : (t : List ℕ) → fullLeaves w s c p (lastFree s k c i) ≡ t → out ≡ withMark (countUsed w t c) (8 * k) (bitFor c i) true → out ≡ takenAt w s c p k i
+  -- t has lists and counts as they are to be
+  at : (t : List ℕ) → takenCounted w s c p (lastFree s k c i) ≡ t → out ≡ withMark t (8 * k) (bitFor c i) true → out ≡ takenAt w s c p k i
   unfolding takenAt
-  at t e q = q ∙ ap (λ (x : List ℕ). withMark (countUsed w x c) (8 * k) (bitFor c i) true) (sym e)
+  at t e q = q ∙ ap (λ (x : List ℕ). withMark x (8 * k) (bitFor c i) true) (sym e)
 
   module _ (small : c < 3) where
-    pub last-paged : r ≡ true → out ≡ withMark (countUsed w (setAside w s c p) c) (8 * (k + i / 64)) (i % 64) true → out ≡ takenAt w s c p k i
-    last-paged t q = at (setAside w s c p) (leaves t) (q ∙ paged-marked (countUsed w (setAside w s c p) c) k c i small true)
+    pub last-paged : r ≡ true → out ≡ withMark last (8 * (k + i / 64)) (i % 64) true → out ≡ takenAt w s c p k i
+    last-paged t q = at last (leaves t) (q ∙ paged-marked last k c i small true)
 
     pub more-paged : r ≡ false → out ≡ withMark (countUsed w s c) (8 * (k + i / 64)) (i % 64) true → out ≡ takenAt w s c p k i
-    more-paged t q = at s (stays t) (q ∙ paged-marked (countUsed w s c) k c i small true)
+    more-paged t q = at (countUsed w s c) (stays t) (q ∙ paged-marked (countUsed w s c) k c i small true)
 
   module _ (large : 3 ≤ c) where
-    pub last-recorded : r ≡ true → out ≡ withMark (countUsed w (setAside w s c p) c) (8 * k) (i % 64) true → out ≡ takenAt w s c p k i
-    last-recorded t q = at (setAside w s c p) (leaves t) (q ∙ recorded-marked (countUsed w (setAside w s c p) c) k c i large true)
+    pub last-recorded : r ≡ true → out ≡ withMark last (8 * k) (i % 64) true → out ≡ takenAt w s c p k i
+    last-recorded t q = at last (leaves t) (q ∙ recorded-marked last k c i large true)
 
     pub more-recorded : r ≡ false → out ≡ withMark (countUsed w s c) (8 * k) (i % 64) true → out ≡ takenAt w s c p k i
-    more-recorded t q = at s (stays t) (q ∙ recorded-marked (countUsed w s c) k c i large true)
+    more-recorded t q = at (countUsed w s c) (stays t) (q ∙ recorded-marked (countUsed w s c) k c i large true)
 
 -- ---- a map in the page has words
 

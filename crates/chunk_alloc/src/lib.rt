@@ -6,11 +6,12 @@ ghost use Prim.Native.Nat.{_+_, _*_, _/_, _%_, _≤_, _<_};
 ghost use mathlib.Core.Bool.{true};
 ghost use lib.ListN.{length};
 ghost use Rattle.records.specs.Layout.{tallyPlace};
+ghost use Rattle.records.specs.Page.{linksAt};
 ghost use Rattle.maps.specs.Bitmap.{withMark};
 ghost use Rattle.maps.specs.Mirror.{lowestClear};
 ghost use Rattle.rules.specs.Bytes.{mapBase};
 ghost use Rattle.map_count.specs.Mirror.{mapBits};
-ghost use Rattle.classes.specs.Mirror.{Whole, countUsed};
+ghost use Rattle.classes.specs.Mirror.{Whole, countUsed, countUsedFirst};
 ghost use Rattle.chunks.specs.Mirror.{setAside, takenAt, chunkTaken, newMapAt, pageCut};
 
 // Hands out the lowest free chunk of page p, the first on the list of class c, and answers its number. Where the map lies is asked once.
@@ -76,10 +77,11 @@ fn take_recorded(pool: &mut [u8], w: u8, c: u8, p: PageNumber, k: usize, i: u16)
 // The last free chunk of page p, which leaves the list; word k has the mark.
 fn take_last(pool: &mut [u8], w: u8, c: u8, p: PageNumber, k: usize, i: u16)
     requires { ⌜ (k < length (now pool) / 8) × (tallyPlace w c < length (now pool) / 8) ⌝ }
-    ensures { λ _. ⌜ now (pool .exit) ≡ withMark (countUsed w (setAside w (now (pool .entry)) c (p .0)) c) (8 * k) (i % 64) true ⌝ }
+    ensures { λ _. ⌜ now (pool .exit) ≡ withMark (countUsedFirst w (setAside w (now (pool .entry)) c (p .0)) c (linksAt w (now (pool .entry)) (p .0) .next .0)) (8 * k) (i % 64) true ⌝ }
 {
-    class_lists::set_aside(pool, w, c, p);
-    take(pool, w, c, k, i);
+    let next = class_lists::set_aside(pool, w, c, p);
+    class_counting::count_used_first(pool, w, c, next);
+    map_marks::set_mark_in(pool, k, i);
 }
 
 fn take(pool: &mut [u8], w: u8, c: u8, k: usize, i: u16)

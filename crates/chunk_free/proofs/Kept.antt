@@ -1,21 +1,23 @@
--- A chunk that comes back where others stay taken, by where its map lies.
-use mathlib.Core.Path.{_≡_, ap, _∙_}
-use mathlib.Core.Bool.{Bool, false}
+-- A chunk that comes back, by whether others of its page stay taken.
+use mathlib.Core.Path.{_≡_, sym, ap, _∙_}
+use mathlib.Core.Bool.{Bool, true, false}
 use mathlib.Core.List.{List}
-use Prim.Native.Nat.{ℕ, _+_, _*_, _/_, _%_, _≤_, _<_}
+use Prim.Native.Nat.{ℕ, _+_, _*_, _/_, _%_, _<_}
+use Rattle.base.proofs.AllBelow.{pick-yes, pick-no}
+use Rattle.model.specs.Classes.{chunks}
 use Rattle.maps.specs.Bitmap.{withMark}
-use Rattle.map_occupancy.specs.Mirror.{bitFor, wasFull}
-use Rattle.classes.specs.Mirror.{countBack}
-use Rattle.chunks.specs.Mirror.{fullReturns, keptAt}
-use Rattle.chunks.proofs.Marks.{paged-marked, recorded-marked}
+use Rattle.run_neighbours.specs.Mirror.{pagesReleased}
+use Rattle.map_occupancy.specs.Mirror.{lastTaken}
+use Rattle.classes.specs.Mirror.{countPageBack}
+use Rattle.chunks.specs.Mirror.{delisted, backCounted, keptAt, pageDropped, freedAt}
+use Rattle.chunks.proofs.Marks.{chunk-marked}
 
-module _ (w : ℕ) (s : List ℕ) (c p k i : ℕ) (full : Bool) (a b out : List ℕ) (told : full ≡ wasFull s k c i) (listed : a ≡ fullReturns w s c p full) (counted : b ≡ countBack w a c) where
-  at : out ≡ withMark b (8 * k) (bitFor c i) false → out ≡ keptAt w s c p k i
-  unfolding keptAt
-  at q = q ∙ ap (λ (x : List ℕ). withMark x (8 * k) (bitFor c i) false) (counted ∙ ap (λ (x : List ℕ). countBack w x c) (listed ∙ ap (fullReturns w s c p) told))
+module _ (w : ℕ) (s : List ℕ) (P c p k i : ℕ) (out : List ℕ) (own : i < chunks c) (r : Bool) (told : r ≡ lastTaken s k c i) where
+  pub dropped : r ≡ true → out ≡ countPageBack w (withMark (pagesReleased w (delisted w s c p) P p 1) (8 * (k + i / 64)) (i % 64) false) c → out ≡ freedAt w s P c p k i
+  unfolding freedAt pageDropped
+  dropped t q =
+      q ∙ ap (λ (x : List ℕ). countPageBack w x c) (chunk-marked (pagesReleased w (delisted w s c p) P p 1) k c i own false) ∙ sym (pick-yes _ _ _ (sym told ∙ t))
 
-  pub kept-paged : c < 3 → out ≡ withMark b (8 * (k + i / 64)) (i % 64) false → out ≡ keptAt w s c p k i
-  kept-paged small q = at (q ∙ paged-marked b k c i small false)
-
-  pub kept-recorded : 3 ≤ c → out ≡ withMark b (8 * k) (i % 64) false → out ≡ keptAt w s c p k i
-  kept-recorded large q = at (q ∙ recorded-marked b k c i large false)
+  pub kept : r ≡ false → out ≡ withMark (backCounted w s c p) (8 * (k + i / 64)) (i % 64) false → out ≡ freedAt w s P c p k i
+  unfolding freedAt keptAt
+  kept t q = q ∙ chunk-marked (backCounted w s c p) k c i own false ∙ sym (pick-no _ _ _ (sym told ∙ t))

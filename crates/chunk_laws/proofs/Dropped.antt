@@ -46,6 +46,7 @@ use Rattle.run_neighbours.specs.Mirror.{pagesReleased}
 use Rattle.classes.proofs.Numbers.{own-past}
 use Rattle.classes.specs.Mirror.{mapWord, pageBack, countPageBack}
 use Rattle.map_occupancy.specs.Mirror.{lastTaken}
+use Rattle.map_occupancy.proofs.Words.{bit-own}
 use Rattle.chunks.specs.Mirror.{delisted, pageDropped, freedAt, chunkFreed}
 use Rattle.drawing.specs.Draw.{mapHas, mapByte, mapped, draw}
 use Rattle.drawing.proofs.Mapped.{length-mapped, mapped-map, mapped-is}
@@ -218,7 +219,7 @@ module _ {w : ℕ} {s : List ℕ} {m : State} {p c : ℕ} {k : ℕ → Bool} (H 
       let z : withMark (pagesReleased w (delisted w (draw w s m) c p) P p 1) (mapBase w P p c) i false ≡ paint w P (setMap (midway m n) p (mapOf (slab c k′))) (mapped w m₁ s) =
       ap (λ (t : List ℕ). withMark t (mapBase w P p c) i false) lists-drawn
       ∙ mark-drawn w s m W room p (page-below H) wide narrow few B (midway m n) F maps c k is (unfold stateImage in (rw is)) i false in-range in
-      rw (last-told, z, next)
+      rw (last-told, remarked.base H, bit-own c i in-range, z, next)
       (class-drawn w P wide (setMap (midway m n) p (mapOf (slab c k′))) (mapped w m₁ s) (rw (length-mapped w m₁ s) (omega arith)) (fits-map F p (mapOf (slab c k′))) c
       (page-ok H .in-range) (pageBack c)
       ∙ counts-drawn m n W Wn refl few c _ _ (λ q h. map-frame m n p (mapOf (slab c k′)) there (ap mapOf here ∙ sym no-field) q) own-record

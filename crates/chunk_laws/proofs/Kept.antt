@@ -3,9 +3,8 @@ use mathlib.Core.Path.{_≡_, refl, sym, _∙_, ap}
 use mathlib.Core.Logic.{_⊎_, inl, inr, ⊎-elim, _≢_}
 use mathlib.Core.Bool.{Bool, true, false, not}
 use mathlib.Core.List.{List, [], _∷_}
-use Prim.Native.Nat.{ℕ, suc, _+_, _-_, _/_, _%_, _≤_, _<_}
+use Prim.Native.Nat.{ℕ, suc, _+_, _/_, _%_, _≤_, _<_}
 use native.Mathlib.Omega.{arith}
-use borrow.Author.Tests.{ne-eqb}
 use Rattle.base.specs.Tests.{pick}
 use Rattle.base.specs.Functions.{upd}
 use Rattle.base.specs.Lists.{Mem}
@@ -24,20 +23,21 @@ use Rattle.image.specs.Image.{Image, paint, setLinks}
 use Rattle.lists.specs.Mirror.{between}
 use Rattle.lists.specs.Nodes.{firstIn, push}
 use Rattle.lists.proofs.Laws.{Relinked, push-relinked}
-use Rattle.lists.proofs.Paint.{Maybe}
+use Rattle.lists.proofs.Paint.{Maybe, small}
+use Rattle.maps.specs.Bitmap.{withMark}
+use Rattle.rules.specs.Bytes.{mapBase}
 use Rattle.rules.specs.Drawn.{classRecord, stateImage}
 use Rattle.rules.proofs.Fits.{state-fits}
 use Rattle.shows.specs.Shows.{Unlisted}
 use Rattle.shows.proofs.Shows.{state-shows, not-start, not-listed}
 use Rattle.run_laws.proofs.Shown.{state-scene}
-use Rattle.classes.specs.Mirror.{mapWord, chunkBorrowed, countBack}
-use Rattle.map_occupancy.specs.Mirror.{wasFull}
+use Rattle.classes.specs.Mirror.{chunkBorrowed, countBack, countBackFirst}
 use Rattle.map_occupancy.proofs.Words.{bit-own}
-use Rattle.chunks.specs.Mirror.{classLinks, fullReturns, keptAt, freedAt, chunkFreed}
+use Rattle.chunks.specs.Mirror.{classLinks, setBefore, backCounted, keptAt, freedAt, chunkFreed}
 use Rattle.drawing.specs.Draw.{mapped, draw}
 use Rattle.chunk_laws.specs.Midway.{midway}
 use Rattle.chunk_laws.proofs.Counts.{used-bump}
-use Rattle.chunk_laws.proofs.Lists.{pushed-shows, enlisted-painted}
+use Rattle.chunk_laws.proofs.Lists.{pushed-shows, first-pushed}
 use Rattle.chunk_laws.proofs.Remarked.{Here, page-ok, page-below}
 use Rattle.chunk_laws.proofs.Remarked as remarked
 
@@ -46,7 +46,7 @@ no-borrow x y e h = rw e (omega arith)
 
 module _ {w : ℕ} {s : List ℕ} {m : State} {p c : ℕ} {k : ℕ → Bool} (H : Here w s m p c k)
     (i : ℕ) (in-use : own c ≤ i) (in-range : i < chunks c) (set : k i ≡ true) (stay : hasTaken c (upd k i false) ≡ true) where
-  open Here H using (wide, narrow, slice as B, well as W, few, room, is)
+  open Here H using (well as W, few, is)
 
   abbrev P : ℕ
   P = m .size
@@ -71,9 +71,6 @@ module _ {w : ℕ} {s : List ℕ} {m : State} {p c : ℕ} {k : ℕ → Bool} (H 
   used-more : usedOn c (slab c k) ≡ usedOn c (slab c k′) + 1
   used-more = used-bump c k′ k i in-use in-range (upd-same k i false) set (λ j d. sym (upd-other k i false j d))
 
-  full : (b : Bool) → hasClear c k ≡ b → wasFull (draw w s m) (mapWord w P p c) c i ≡ not b
-  full b h = remarked.was-full-told H i in-range ∙ ap not h
-
   -- ---- the class record
 
   own-record : chunkBorrowed (midway m n .class c) ≡ stateImage n .class c
@@ -90,24 +87,25 @@ module _ {w : ℕ} {s : List ℕ} {m : State} {p c : ℕ} {k : ℕ → Bool} (H 
 
   -- ---- the lists
 
-  stays : hasClear c k ≡ true → fullReturns w (draw w s m) c p (wasFull (draw w s m) (mapWord w P p c) c i) ≡ paint w P (midway m n) S
-  unfolding fullReturns pick relisted
+  stays : hasClear c k ≡ true → withMark (backCounted w (draw w s m) c p) (mapBase w P p c) i false ≡ draw w s n
+  unfolding backCounted countBack pick relisted
   stays h =
-      rw (full true h)
-      (remarked.list-stays H i false in-range l (m .tally) Wn (rw h))
+      rw (remarked.off-told H ∙ ap not h)
+      (remarked.remarked-drawn H i false in-range l (m .tally) Wn chunkBorrowed own-record (λ d e. refl) _
+      (remarked.list-stays H i false in-range l (m .tally) Wn (rw h)))
 
-  returns : hasClear c k ≡ false → fullReturns w (draw w s m) c p (wasFull (draw w s m) (mapWord w P p c) c i) ≡ paint w P (midway m n) S
-  unfolding fullReturns pick draw
+  returns : hasClear c k ≡ false → withMark (backCounted w (draw w s m) c p) (mapBase w P p c) i false ≡ draw w s n
+  unfolding backCounted countBackFirst setBefore pick
   returns h =
-      rw (
-        full false h,
-        enlisted-painted w P wide narrow (omega arith) S (remarked.records-room H) (state-fits W few) c p (page-ok H .in-range) (page-below H) first,
-      )
-      (remarked.lists-drawn H i false in-range l (m .tally) Wn (upd (m .lists) c (p ∷ m .lists c)) L
+      rw (remarked.off-told H ∙ ap not h, remarked.class-told H)
+      (remarked.relinked-drawn H i false in-range l (m .tally) Wn chunkBorrowed own-record (λ d e. refl) first first p p (small P (omega arith) near) near
+      (omega (arith, page-below H)) (omega (arith, page-below H))
+      (ap (λ (I : Image). paint w P I S) (first-pushed (stateImage m) c p (classLinks c))
+      ∙ remarked.lists-drawn H i false in-range l (m .tally) Wn (upd (m .lists) c (p ∷ m .lists c)) L
       (λ d. unfold relisted in (rw h))
       (pushed-shows (state-scene W (omega arith)) c (page-ok H .in-range) (W .class-lists .once c) (remarked.lists-apart m W few c) (state-shows m W (omega arith)) p (page-below H) off k is
       (λ q h o. h))
-      (pushed .free-pages) (pushed .class) (pushed .map))
+      (pushed .free-pages) (pushed .class) (pushed .map)) _ refl)
     where
       L : Image
       L = push (stateImage m) (suc c) p (classLinks c)
@@ -115,11 +113,11 @@ module _ {w : ℕ} {s : List ℕ} {m : State} {p c : ℕ} {k : ℕ → Bool} (H 
       pushed : Relinked (setLinks (stateImage m) p (between (classLinks c) noPage (firstIn (stateImage m) (suc c)))) L
       pushed = push-relinked (stateImage m) (suc c) p (classLinks c)
 
-      first : Maybe P (firstIn (stateImage m) (suc c))
-      first =
-          unfold stateImage firstIn in
-          let e : suc c - 1 ≡ c = omega arith in
-          rw (ne-eqb (suc c) 0 (omega arith), e) (go (m .lists c) (λ q h. state-scene W (omega arith) .class-in c q (page-ok H .in-range) h .0))
+      first : ℕ
+      first = stateImage m .class c .first .0
+
+      near : Maybe P first
+      near = unfold stateImage in (go (m .lists c) (λ q h. state-scene W (omega arith) .class-in c q (page-ok H .in-range) h .0))
         where
           go : (xs : List ℕ) → ((q : ℕ) → Mem q xs → q < P) → Maybe P (headOr noPage xs)
           go [] h = inl refl
@@ -136,8 +134,6 @@ module _ {w : ℕ} {s : List ℕ} {m : State} {p c : ℕ} {k : ℕ → Bool} (H 
           closed d (inr e) = open-other c d k e
 
   pub chunk-kept : chunkFreed w (draw w s m) P c p i ≡ draw w s (keepPage m p c k i)
-  unfolding chunkFreed freedAt keptAt countBack keepPage pick
+  unfolding chunkFreed freedAt keptAt keepPage pick
   chunk-kept =
-      rw (remarked.last-taken-told H i in-use in-range set ∙ ap not stay, remarked.base H, bit-own c i in-range)
-      (remarked.remarked-drawn H i false in-range l (m .tally) Wn chunkBorrowed own-record (λ d e. refl) _
-      (⊎-elim stays returns (bool? (hasClear c k))))
+      rw (remarked.last-taken-told H i in-use in-range set ∙ ap not stay, remarked.base H, bit-own c i in-range) (⊎-elim stays returns (bool? (hasClear c k)))

@@ -1,25 +1,30 @@
 -- A page leaves the list of its class, or comes in front of it: the image shows the links so changed.
-use mathlib.Core.Path.{_≡_, refl, sym, ap, _∙_}
+use mathlib.Core.Path.{_≡_, refl, sym, ap, _∙_, fun-ext}
 use mathlib.Core.Logic.{_⊎_, inl, inr, _≢_}
-use mathlib.Core.Bool.{Bool}
+use mathlib.Core.Bool.{Bool, true, false, not}
 use mathlib.Core.List.{List, [], _∷_}
-use Prim.Native.Nat.{ℕ, suc, _+_, _*_, _/_, _≤_, _<_}
+use Prim.Native.Nat.{ℕ, suc, _+_, _-_, _*_, _/_, _≤_, _<_}
 use native.Mathlib.Omega.{arith}
 use lib.ListN.{length}
-use borrow.Author.Tests.{ne-eqb}
+use lib.Dec.{eqb}
+use borrow.Author.Tests.{eq-eqb, ne-eqb}
+use Rattle.base.specs.Tests.{pick}
 use Rattle.base.specs.Functions.{upd}
 use Rattle.base.specs.Lists.{Mem, NoDup, keep}
-use Rattle.base.specs.Links.{nextIn, prevFrom, others}
+use Rattle.base.specs.Links.{headOr, nextIn, prevFrom, others}
 use Rattle.base.proofs.Cases.{clash, eq?, lt?, Out}
-use Rattle.base.proofs.Functions.{upd-same, upd-other}
+use Rattle.base.proofs.Functions.{upd-same, upd-other, upd-at}
 use Rattle.base.proofs.Lists.{mem-keep}
+use Rattle.base.proofs.Neighbours.{prev-on}
 use Rattle.records.specs.Layout.{noPage}
 use Rattle.records.specs.declared.Links.{Links}
+use Rattle.records.specs.Mirror.{firstTo}
 use Rattle.model.specs.State.{Page, idle, slab, taken, inside, edge, Run}
-use Rattle.image.specs.Image.{Image, paint}
+use Rattle.image.specs.Image.{Image, paint, setAllLinks, setLinks}
+use Rattle.image.specs.Update.{setClass}
 use Rattle.image.proofs.Fits.{Fits}
-use Rattle.lists.specs.Mirror.{between}
-use Rattle.lists.specs.Nodes.{firstIn, prevOf, Listed, unlink, push}
+use Rattle.lists.specs.Mirror.{between, prevTo}
+use Rattle.lists.specs.Nodes.{firstIn, prevOf, Listed, putFirst, putNext, putPrev, unlink, push}
 use Rattle.lists.proofs.Laws.{unlink-listed, push-listed, unlink-off, push-off, unlink-others, push-others, unlink-relinked, push-relinked}
 use Rattle.lists.proofs.Paint.{Maybe, push-paint}
 use Rattle.rules.specs.Drawn.{starts, links, pageLinks}
@@ -37,6 +42,29 @@ next-out z q (y ∷ ys) h = rw (ne-eqb y q (λ e. h (inl (sym e)))) (next-out z 
 prev-out : (z b q : ℕ) (xs : List ℕ) → ¬ Mem q xs → prevFrom z b q xs ≡ z
 prev-out z b q [] h = refl
 prev-out z b q (y ∷ ys) h = rw (ne-eqb y q (λ e. h (inl (sym e)))) (prev-out z y q ys (λ m. h (inr m)))
+
+pub head-out : (z q : ℕ) (xs : List ℕ) → q ≢ z → ¬ Mem q xs → headOr z xs ≢ q
+head-out z q [] d h e = d (sym e)
+head-out z q (y ∷ ys) d h e = h (inl (sym e))
+
+-- there is no page before p, and p is not the first
+abbrev pub offIn : (p : ℕ) (xs : List ℕ) → Bool
+offIn p xs = pick (eqb (prevFrom noPage noPage p xs) noPage) (not (eqb (headOr noPage xs) p)) false
+
+pub off-out : (p : ℕ) (xs : List ℕ) → p < noPage → ¬ Mem p xs → offIn p xs ≡ true
+unfolding pick
+off-out p xs l h = rw (prev-out noPage noPage p xs h, ne-eqb (headOr noPage xs) p (head-out noPage p xs (omega arith) h))
+
+pub off-on : (p : ℕ) (xs : List ℕ) → ((q : ℕ) → Mem q xs → q < noPage) → Mem p xs → offIn p xs ≡ false
+unfolding pick
+off-on p (x ∷ xs) low m = go (eq? x p) m
+  where
+    go : (x ≡ p) ⊎ (x ≢ p) → Mem p (x ∷ xs) → offIn p (x ∷ xs) ≡ false
+    go (inl e) m = rw (eq-eqb x p e)
+    go (inr e) (inl z) = absurd (e (sym z))
+    go (inr e) (inr k) =
+        let l : prevFrom noPage x p xs < noPage = low _ (prev-on noPage x p xs k) in
+        rw (ne-eqb x p e, ne-eqb (prevFrom noPage x p xs) noPage (omega arith))
 
 module _ (rs : List Run) (ls ls′ : ℕ → List ℕ) (q : ℕ) where
   -- kind, class and run ask no list
@@ -187,6 +215,33 @@ module _ {P : ℕ} {page : ℕ → Page} {rs : List Run} {ls : ℕ → List ℕ}
               none : (d : ℕ) → d ≤ 8 → Mem q (ls d) → (d ≡ c) ⊎ (d ≢ c) → ¬ Mem q (ls c) → ⊥
               none d h n (inl z) out = out (rw z at n)
               none d h n (inr z) out = u .no-class d h (rw (same-more d z) n)
+
+-- ---- the same, where the class's first page changes last
+
+-- page p, the first, leaves and has the links l
+pub first-left : (I : Image) (c p : ℕ) (l : Links) → I .links p .prev .0 ≡ noPage → I .links p .next .0 ≢ p
+    → setClass (putPrev (setLinks I p l) (I .links p .next .0) noPage) c (firstTo (I .class c) (I .links p .next .0)) ≡ setLinks (unlink I (suc c) (I .links p)) p l
+unfolding unlink putNext putFirst pick
+first-left I c p l first other =
+    let e : suc c - 1 ≡ c = omega arith in
+    rw (first, ne-eqb (suc c) 0 (omega arith), e) (λ i. setAllLinks (setClass I c (firstTo (I .class c) h)) (fun-ext (λ q. go q (eq? q p)) i))
+  where
+    h : ℕ
+    h = I .links p .next .0
+
+    go : (q : ℕ) → (q ≡ p) ⊎ (q ≢ p) → upd (upd (I .links) p l) h (prevTo (upd (I .links) p l h) noPage) q ≡ upd (upd (I .links) h (prevTo (I .links h) noPage)) p l q
+    go q (inl e) =
+        rw (e, upd-same (upd (I .links) h (prevTo (I .links h) noPage)) p l)
+        (upd-other (upd (I .links) p l) h _ p (λ z. other (sym z)) ∙ upd-same (I .links) p l)
+    go q (inr e) =
+        rw (upd-other (I .links) p l h other, upd-other (upd (I .links) h (prevTo (I .links h) noPage)) p l q e)
+        (upd-at (upd (I .links) p l) (I .links) h (prevTo (I .links h) noPage) q (upd-other (I .links) p l q e))
+
+-- page p comes in front
+pub first-pushed : (I : Image) (c p : ℕ) (l : Links)
+    → setClass (putPrev (setLinks I p (between l noPage (I .class c .first .0))) (I .class c .first .0) p) c (firstTo (I .class c) p) ≡ push I (suc c) p l
+unfolding push putFirst firstIn pick
+first-pushed I c p l = let e : suc c - 1 ≡ c = omega arith in rw (ne-eqb (suc c) 0 (omega arith), e)
 
 -- ---- on painted bytes
 

@@ -21,7 +21,7 @@ use Rattle.model.specs.View.{usedOf, shown}
 use Rattle.model.specs.WellFormed.{TableOk, WellFormed}
 use Rattle.image.specs.Image.{Image, paint}
 use Rattle.image.specs.Update.{setClass, setMap}
-use Rattle.image.proofs.Fits.{Fits}
+use Rattle.image.proofs.Fits.{Fits, fits-class}
 use Rattle.image.proofs.Paint.{paint-ext, class-paint, class-shown}
 use Rattle.lists.specs.Nodes.{head, firstIn, Listed}
 use Rattle.lists.proofs.Laws.{next-head}
@@ -38,10 +38,35 @@ first-listed J list xs K = sym (next-head J list) ∙ K .nexts (head list) (inl 
 
 -- ---- a class record changed
 
+-- a place changed twice
+upd-twice : {A : Type 0} (f : ℕ → A) (p : ℕ) (x y : A) (q : ℕ) → upd f p y q ≡ upd (upd f p x) p y q
+upd-twice f p x y q = go (eq? q p)
+  where
+    go : (q ≡ p) ⊎ (q ≢ p) → upd f p y q ≡ upd (upd f p x) p y q
+    go (inl e) = rw (e, upd-same f p y, upd-same (upd f p x) p y)
+    go (inr e) = rw (upd-other (upd f p x) p y q e) (upd-other f p y q e ∙ sym (upd-other f p x q e))
+
 pub class-drawn : (w P : ℕ) → 2 ≤ w → (I : Image) (S : List ℕ) → 1 + 9 * w + 2 * P ≤ length S / 8 → Fits P I → (c : ℕ) → c ≤ 8 → (f : ClassRecord → ClassRecord)
     → withClass w (paint w P I S) c (f (classAt w (paint w P I S) c)) ≡ paint w P (setClass I c (f (I .class c))) S
 class-drawn w P wide I S room F c ok f =
     rw (class-shown w P wide I S room c (omega arith) (F .class c (omega arith))) (class-paint w P wide I S c (f (I .class c)) (omega arith))
+
+-- its first page may change with the rest or before it
+pub first-drawn : (w P : ℕ) → 2 ≤ w → (I : Image) (S : List ℕ) → 1 + 9 * w + 2 * P ≤ length S / 8 → Fits P I → (c : ℕ) → c ≤ 8 → (f : ClassRecord → ClassRecord) (x : ℕ)
+    → x < 65536 → (t : List ℕ) → t ≡ paint w P (setClass I c (firstTo (I .class c) x)) S
+    → withClass w (paint w P I S) c (f (firstTo (classAt w (paint w P I S) c) x)) ≡ withClass w t c (f (classAt w t c))
+first-drawn w P wide I S room F c ok f x small t e =
+    let r : ClassRecord = firstTo (I .class c) x in
+    let G : Fits P (setClass I c r) = fits-class F c r (λ l. first-fits (I .class c) x (F .class c l) small) in
+    class-drawn w P wide I S room F c ok (λ y. f (firstTo y x))
+    ∙ paint-ext w P (setClass I c (f r)) (setClass (setClass I c r) c (f r)) S (record {
+      free-pages = refl;
+      first-run = refl;
+      class = λ d l. upd-twice (I .class) c r (f r) d;
+      map = λ q l. refl;
+      links = λ q l. refl;
+    })
+    ∙ sym (rw e (rw (upd-same (I .class) c r) at (class-drawn w P wide (setClass I c r) S room G c ok f)))
 
 -- map fields have the width of a word
 pub fits-map : {P : ℕ} {I : Image} → Fits P I → (p v : ℕ) → Fits P (setMap I p v)

@@ -11,7 +11,7 @@ use Rattle.base.specs.Tests.{pick}
 use Rattle.base.specs.Functions.{upd}
 use Rattle.base.specs.Lists.{Mem, keep}
 use Rattle.base.specs.Links.{others}
-use Rattle.base.proofs.Cases.{clash, eq?, lt?, Out, never}
+use Rattle.base.proofs.Cases.{clash, eq?, lt?, bool?, Out, never}
 use Rattle.base.proofs.Functions.{upd-same, upd-other}
 use Rattle.base.proofs.Lists.{keep-mem}
 use Rattle.base.proofs.Neighbours.{next-on, prev-on}
@@ -20,6 +20,7 @@ use Rattle.records.specs.Layout.{noPage}
 use Rattle.records.specs.declared.Links.{Links}
 use Rattle.records.specs.declared.ClassRecord.{ClassRecord}
 use Rattle.records.specs.Class.{classAt, withClass}
+use Rattle.records.specs.Page.{linksAt, withLinks}
 use Rattle.records.specs.Fits.{ClassFits}
 use Rattle.records.specs.Mirror.{firstTo}
 use Rattle.model.specs.Classes.{chunks, own, lowest, hasClear, hasTaken}
@@ -28,30 +29,30 @@ use Rattle.model.specs.View.{usedOn, usedOf, shown}
 use Rattle.model.specs.WellFormed.{ClassOk, WellFormed}
 use Rattle.model.proofs.Classes.{large-chunks, lowest-clear}
 use Rattle.model.proofs.Table.{in-table, slab-ok}
-use Rattle.model.proofs.Lists.{open-is}
+use Rattle.model.proofs.Lists.{open-slab, open-is}
 use Rattle.maps.specs.Bitmap.{mark, withMark}
 use Rattle.maps.specs.Mirror.{lowestClear}
-use Rattle.image.specs.Image.{Image, paint}
+use Rattle.image.specs.Image.{Image, paint, setLinks}
 use Rattle.image.specs.Update.{setClass, setMap}
-use Rattle.image.proofs.Fits.{Fits, fits-class}
-use Rattle.image.proofs.Paint.{links-shown, length-paint}
-use Rattle.lists.specs.Mirror.{between}
-use Rattle.lists.specs.Nodes.{prevOf, unlink}
-use Rattle.lists.proofs.Paint.{Maybe, small, fits-prev, fits-next, unlink-paint}
+use Rattle.image.proofs.Fits.{Fits, fits-class, fits-links}
+use Rattle.image.proofs.Paint.{links-paint, links-shown, class-shown, length-paint}
+use Rattle.lists.specs.Mirror.{between, withPrev}
+use Rattle.lists.specs.Nodes.{prevOf, putPrev, unlink}
+use Rattle.lists.proofs.Paint.{Maybe, small, fits-prev, fits-next, prev-paint, unlink-paint}
 use Rattle.rules.specs.Drawn.{pageLinks, onList, mapOf, stateImage}
 use Rattle.rules.specs.Bytes.{mapBase}
 use Rattle.rules.proofs.Fits.{state-fits}
-use Rattle.shows.proofs.Shows.{state-shows, not-start}
+use Rattle.shows.proofs.Shows.{state-shows, not-start, not-listed, listed-low}
 use Rattle.shows.specs.Shows.{Unlisted, ShowsOn, ShowsLinks}
 use Rattle.run_laws.specs.Scene.{Scene}
 use Rattle.run_laws.proofs.Shown.{state-scene}
 use Rattle.map_count.specs.Mirror.{mapBits}
 use Rattle.classes.specs.Mirror.{mapWord}
 use Rattle.classes.proofs.Numbers.{word-paged, word-recorded, base-paged, base-recorded}
-use Rattle.map_occupancy.specs.Mirror.{wasFull, lastFree, lastTaken}
+use Rattle.map_occupancy.specs.Mirror.{lastFree, lastTaken}
 use Rattle.map_occupancy.proofs.Words.{bits-most}
-use Rattle.map_occupancy.proofs.Told.{was-full-is, last-free-is, last-taken-is}
-use Rattle.chunks.specs.Mirror.{listOf, delisted}
+use Rattle.map_occupancy.proofs.Told.{last-free-is, last-taken-is}
+use Rattle.chunks.specs.Mirror.{listOf, classLinks, delisted, offList}
 use Rattle.drawing.specs.Draw.{inMap, mappedByte, mapped, draw}
 use Rattle.drawing.proofs.Mapped.{length-mapped, mapped-keeps}
 use Rattle.drawing.proofs.Records.{paint-keeps}
@@ -61,8 +62,8 @@ use Rattle.base.proofs.Search.{least-spec, least-is}
 use Rattle.chunk_laws.proofs.Counts.{used-frame, total-frame, free-frame, used-none}
 use Rattle.chunk_laws.specs.Midway.{midway}
 use Rattle.chunk_laws.proofs.Maps.{marks-shown, mark-drawn}
-use Rattle.chunk_laws.proofs.Next.{map-frame, class-drawn, midway-fits, shown-midway, class-same, counts-drawn}
-use Rattle.chunk_laws.proofs.Lists.{left-shows}
+use Rattle.chunk_laws.proofs.Next.{map-frame, class-drawn, first-drawn, midway-fits, shown-midway, class-same, counts-drawn}
+use Rattle.chunk_laws.proofs.Lists.{offIn, off-out, off-on, left-shows}
 
 -- ---- marks are no part of what a page's links show
 
@@ -167,14 +168,35 @@ module _ {w : ℕ} {s : List ℕ} {m : State} {p c : ℕ} {k : ℕ → Bool} (H 
   unfolding draw
   mark-told i l = ap (λ (x : ℕ). mark (paint w P (stateImage m) S) x i) base ∙ shown-mark i l
 
-  pub was-full-told : (i : ℕ) → i < chunks c → wasFull (draw w s m) (mapWord w P p c) c i ≡ not (hasClear c k)
-  was-full-told = was-full-is (draw w s m) bytes (mapWord w P p c) c in-pool k mark-told (page-ok .past-clear)
-
   pub last-free-told : (i : ℕ) → i < chunks c → k i ≡ false → lastFree (draw w s m) (mapWord w P p c) c i ≡ not (hasClear c (upd k i true))
   last-free-told i = last-free-is (draw w s m) bytes (mapWord w P p c) c in-pool k mark-told (page-ok .past-clear) i
 
   pub last-taken-told : (i : ℕ) → own c ≤ i → i < chunks c → k i ≡ true → lastTaken (draw w s m) (mapWord w P p c) c i ≡ not (hasTaken c (upd k i false))
   last-taken-told i o l t = last-taken-is (draw w s m) bytes (mapWord w P p c) c in-pool k mark-told (page-ok .past-clear) i l o t (page-ok .own-set)
+
+  -- ---- the page is on its list where it has a clear mark
+
+  pub page-links : stateImage m .links p ≡ onList 2 c 0 p (m .lists c)
+  unfolding stateImage
+  page-links = rw is
+
+  pub links-told : linksAt w (draw w s m) p ≡ stateImage m .links p
+  unfolding draw
+  links-told = links-shown w P wide (stateImage m) S records-room p page-below (state-fits W few .links p page-below)
+
+  pub class-told : classAt w (draw w s m) c ≡ stateImage m .class c
+  unfolding draw
+  class-told = class-shown w P wide (stateImage m) S records-room c (omega (arith, page-ok .in-range)) (state-fits W few .class c (omega (arith, page-ok .in-range)))
+
+  pub off-told : offList w (draw w s m) c p ≡ not (hasClear c k)
+  unfolding offList stateImage
+  off-told = rw (links-told, class-told, is) (⊎-elim on off (bool? (hasClear c k)))
+    where
+      on : hasClear c k ≡ true → offIn p (m .lists c) ≡ not (hasClear c k)
+      on h = rw h (off-on p (m .lists c) (listed-low m W (omega arith) c) (W .class-lists .all c p (rw is (open-slab c k ∙ h))))
+
+      off : hasClear c k ≡ false → offIn p (m .lists c) ≡ not (hasClear c k)
+      off h = rw h (off-out p (m .lists c) (omega (arith, page-below)) (not-listed (W .table) (W .free-runs) (W .class-lists) c p (rw is (open-slab c k ∙ h))))
 
   -- ---- the page leaves its list
 
@@ -190,26 +212,24 @@ module _ {w : ℕ} {s : List ℕ} {m : State} {p c : ℕ} {k : ℕ → Bool} (H 
     after-page q (inl e) = inl e
     after-page q (inr h) = near q h
 
-    page-links : stateImage m .links p ≡ onList 2 c 0 p (m .lists c)
-    unfolding stateImage
-    page-links = rw is
+    prev-near : Maybe P (stateImage m .links p .prev .0)
+    prev-near = rw page-links (before-page _ (prev-on noPage noPage p (m .lists c) listed))
+
+    pub next-near : Maybe P (stateImage m .links p .next .0)
+    next-near = rw page-links (after-page _ (next-on noPage p (m .lists c)))
 
     pub delisted-drawn : delisted w (draw w s m) c p ≡ paint w P (unlink (stateImage m) (suc c) (stateImage m .links p)) S
     unfolding delisted draw
     delisted-drawn =
-        let F = state-fits W few in
         let z : listOf c ≡ suc c = omega (arith, page-ok .in-range) in
-        rw (z, links-shown w P wide (stateImage m) S records-room p page-below (F .links p page-below))
-        (unlink-paint w P wide narrow (omega arith) S records-room F (suc c) (stateImage m .links p) (omega (arith, page-ok .in-range))
-        (rw page-links (before-page _ (prev-on noPage noPage p (m .lists c) listed))) (rw page-links (after-page _ (next-on noPage p (m .lists c)))))
+        rw (z, links-told)
+        (unlink-paint w P wide narrow (omega arith) S records-room (state-fits W few) (suc c) (stateImage m .links p) (omega (arith, page-ok .in-range)) prev-near next-near)
 
     pub delisted-fits : Fits P (unlink (stateImage m) (suc c) (stateImage m .links p))
     unfolding unlink
     delisted-fits =
         let top : P ≤ noPage = omega arith in
-        let a : Maybe P (stateImage m .links p .prev .0) = rw page-links (before-page _ (prev-on noPage noPage p (m .lists c) listed)) in
-        let b : Maybe P (stateImage m .links p .next .0) = rw page-links (after-page _ (next-on noPage p (m .lists c))) in
-        fits-prev w P wide narrow top (fits-next w P wide narrow top (state-fits W few) (suc c) _ _ (small P top b)) _ _ (small P top a)
+        fits-prev w P wide narrow top (fits-next w P wide narrow top (state-fits W few) (suc c) _ _ (small P top next-near)) _ _ (small P top prev-near)
 
     abbrev pub less : ℕ → List ℕ
     less = upd (m .lists) c (keep (others p) (m .lists c))
@@ -310,3 +330,22 @@ module _ {w : ℕ} {s : List ℕ} {m : State} {p c : ℕ} {k : ℕ → Bool} (H 
           rw (z, y)
           (counts-drawn m n W Wn refl few c _ _ (λ q h. map-frame m n p (mapOf (slab c k′)) there (ap mapOf here) q) own
           (λ d x. class-same m n W Wn refl few d (used-other d x) (total-same d) (tally d x)) w (mapped w n s))
+
+      -- the same where links are written and the first page x changes with the record: y comes after p, and u before h
+      pub relinked-drawn : (y h u x : ℕ) → y < 65536 → Maybe P h → u < 65536 → x < 65536
+          → paint w P (setClass (putPrev (setLinks (stateImage m) p (between (classLinks c) noPage y)) h u) c (firstTo (stateImage m .class c) x)) S ≡ paint w P (midway m n) S
+          → (t : List ℕ) → t ≡ withPrev w (withLinks w (draw w s m) p (between (classLinks c) noPage y)) h u
+          → withMark (withClass w t c (f (firstTo (classAt w t c) x))) (mapBase w P p c) i v ≡ draw w s n
+      unfolding draw
+      relinked-drawn y h u x fy near fu fx e t z =
+          let l : Links = between (classLinks c) noPage y in
+          let F : Fits P (setLinks (stateImage m) p l) =
+          fits-links (state-fits W few) p l (λ _. record { kind = omega arith; class = omega (arith, page-ok .in-range); run = omega arith; next = fy; prev = omega arith }) in
+          let G : Fits P (putPrev (setLinks (stateImage m) p l) h u) = fits-prev w P wide narrow (omega arith) F h u fu in
+          rw (
+            z,
+            links-paint w P wide (stateImage m) S p l page-below,
+            prev-paint w P wide narrow (omega arith) S records-room F h u near,
+            first-drawn w P wide (putPrev (setLinks (stateImage m) p l) h u) S records-room G c (page-ok .in-range) f x fx _ (sym e),
+          )
+          (remarked-drawn _ refl)

@@ -1,6 +1,6 @@
 -- A chunk is handed out of the first page of its class list: the bytes become the drawing of the next state.
 use mathlib.Core.Path.{_≡_, refl, sym, ap, _∙_}
-use mathlib.Core.Logic.{inl, ⊎-elim}
+use mathlib.Core.Logic.{inl, ⊎-elim, _≢_}
 use mathlib.Core.Bool.{Bool, true, false, not, cond}
 use mathlib.Core.List.{List, _∷_}
 use Prim.Native.Nat.{ℕ, suc, _+_, _/_, _%_, _≤_, _<_}
@@ -9,9 +9,10 @@ use borrow.Author.Tests.{eq-eqb, ne-eqb}
 use Rattle.base.specs.Tests.{pick}
 use Rattle.base.specs.Functions.{upd}
 use Rattle.base.specs.Lists.{Mem, NoDup, keep}
-use Rattle.base.specs.Links.{others}
+use Rattle.base.specs.Links.{headOr, others}
 use Rattle.base.proofs.Cases.{clash, lt?, bool?}
 use Rattle.base.proofs.Functions.{upd-same, upd-other, upd-out}
+use Rattle.records.specs.Layout.{noPage}
 use Rattle.model.specs.Classes.{chunks, own, lowest, hasClear}
 use Rattle.model.specs.State.{slab, State}
 use Rattle.model.specs.View.{usedOn, usedOf, shown}
@@ -21,30 +22,31 @@ use Rattle.model.proofs.Classes.{lowest-clear}
 use Rattle.model.proofs.Lists.{open-slab}
 use Rattle.model.proofs.MarkChunk.{mark-well}
 use Rattle.image.specs.Image.{Image, paint, setLinks}
-use Rattle.image.proofs.Paint.{links-paint}
 use Rattle.lists.specs.Nodes.{unlink}
 use Rattle.lists.proofs.Laws.{Relinked, unlink-relinked}
-use Rattle.rules.specs.Drawn.{classRecord, stateImage}
+use Rattle.lists.proofs.Paint.{Maybe, small}
+use Rattle.rules.specs.Drawn.{links, classRecord, stateImage}
 use Rattle.rules.proofs.Fits.{state-fits}
 use Rattle.shows.specs.Shows.{Unlisted, ShowsLinks}
 use Rattle.run_laws.proofs.Starts.{keep-every}
 use Rattle.run_laws.proofs.Cut.{shows-written}
-use Rattle.classes.specs.Mirror.{mapWord, chunkCarried, countUsed}
+use Rattle.classes.specs.Mirror.{mapWord, chunkCarried, countUsed, countUsedFirst}
+use Rattle.maps.specs.Bitmap.{withMark}
 use Rattle.maps.specs.Mirror.{lowestClear}
 use Rattle.rules.specs.Bytes.{mapBase}
 use Rattle.map_count.specs.Mirror.{mapBits}
 use Rattle.map_occupancy.specs.Mirror.{lastFree}
 use Rattle.map_occupancy.proofs.Words.{bit-own}
-use Rattle.chunks.specs.Mirror.{classLinks, setAside, fullLeaves, takenAt, chunkTaken}
+use Rattle.chunks.specs.Mirror.{classLinks, setAside, takenCounted, takenAt, chunkTaken}
 use Rattle.drawing.specs.Draw.{mapped, draw}
 use Rattle.chunk_laws.specs.Midway.{midway}
 use Rattle.chunk_laws.proofs.Counts.{used-bump}
-use Rattle.chunk_laws.proofs.Lists.{off-list}
+use Rattle.chunk_laws.proofs.Lists.{off-list, head-out, first-left}
 use Rattle.chunk_laws.proofs.Remarked.{Here, page-ok, page-below}
 use Rattle.chunk_laws.proofs.Remarked as remarked
 
 module _ {w : ℕ} {s : List ℕ} {m : State} {p c : ℕ} {k : ℕ → Bool} (H : Here w s m p c k) (rest : List ℕ) (on : m .lists c ≡ p ∷ rest) where
-  open Here H using (wide, narrow, slice as B, well as W, few, room, is)
+  open Here H using (well as W, few, is)
 
   abbrev P : ℕ
   P = m .size
@@ -113,23 +115,35 @@ module _ {w : ℕ} {s : List ℕ} {m : State} {p c : ℕ} {k : ℕ → Bool} (H 
   last : (b : Bool) → hasClear c k′ ≡ b → lastFree (draw w s m) (mapWord w P p c) c i ≡ not b
   last b h = remarked.last-free-told H i (clear .0) (clear .1) ∙ ap not h
 
-  stays : hasClear c k′ ≡ true → fullLeaves w (draw w s m) c p (lastFree (draw w s m) (mapWord w P p c) c i) ≡ paint w P (midway m (n l)) S
-  unfolding fullLeaves pick
+  other-tally : (d : ℕ) → d ≢ c → n l .tally d ≡ m .tally d
+  other-tally d e = upd-other (m .tally) c (asked (m .tally c)) d e
+
+  stays : hasClear c k′ ≡ true → withMark (takenCounted w (draw w s m) c p (lastFree (draw w s m) (mapWord w P p c) c i)) (mapBase w P p c) i true ≡ draw w s (n l)
+  unfolding takenCounted countUsed pick
   stays h =
       rw (last true h)
-      (remarked.list-stays H i true (clear .0) l (n l .tally) Wn (on ∙ rw h))
+      (remarked.remarked-drawn H i true (clear .0) l (n l .tally) Wn chunkCarried own-record other-tally _
+      (remarked.list-stays H i true (clear .0) l (n l .tally) Wn (on ∙ rw h)))
 
-  leaves : hasClear c k′ ≡ false → fullLeaves w (draw w s m) c p (lastFree (draw w s m) (mapWord w P p c) c i) ≡ paint w P (midway m (n l)) S
-  unfolding fullLeaves pick setAside
+  leaves : hasClear c k′ ≡ false → withMark (takenCounted w (draw w s m) c p (lastFree (draw w s m) (mapWord w P p c) c i)) (mapBase w P p c) i true ≡ draw w s (n l)
+  unfolding takenCounted countUsedFirst setAside pick
   leaves h =
-      rw (
-        last false h,
-        remarked.delisted-drawn H listed,
-        links-paint w P wide J S p (classLinks c) (page-below H),
-      )
-      (remarked.lists-drawn H i true (clear .0) l (n l .tally) Wn less (setLinks J p (classLinks c))
-      (λ d. ap (λ (x : List ℕ). upd (m .lists) c x d) (gone ∙ rw h)) aside (relinked .free-pages) (relinked .class) (relinked .map))
+      rw (last false h, remarked.links-told H)
+      (remarked.relinked-drawn H i true (clear .0) l (n l .tally) Wn chunkCarried own-record other-tally noPage after noPage after (omega arith) near (omega arith)
+      (small P (omega arith) near)
+      (ap (λ (I : Image). paint w P I S) (first-left (stateImage m) c p (classLinks c) (rw first) (rw first (head-out noPage p rest (omega (arith, page-below H)) (once .0))))
+      ∙ remarked.lists-drawn H i true (clear .0) l (n l .tally) Wn less (setLinks J p (classLinks c))
+      (λ d. ap (λ (x : List ℕ). upd (m .lists) c x d) (gone ∙ rw h)) aside (relinked .free-pages) (relinked .class) (relinked .map)) _ refl)
     where
+      first : stateImage m .links p ≡ links 2 c 0 (headOr noPage rest) noPage
+      first = remarked.page-links H ∙ rw (on, eq-eqb p p refl)
+
+      after : ℕ
+      after = stateImage m .links p .next .0
+
+      near : Maybe P after
+      near = remarked.next-near H listed
+
       J : Image
       J = unlink (stateImage m) (suc c) (stateImage m .links p)
 
@@ -157,8 +171,5 @@ module _ {w : ℕ} {s : List ℕ} {m : State} {p c : ℕ} {k : ℕ → Bool} (H 
           rw (e, upd-same (J .links) p (classLinks c), is) (sym (off-list (m .runs) less p c k (off .no-class c (page-ok H .in-range)))))
 
   pub chunk-taken : chunkTaken w (draw w s m) P c p i ≡ draw w s (markChunk m c p rest k .after)
-  unfolding chunkTaken takenAt countUsed markChunk
-  chunk-taken =
-      rw (remarked.base H, bit-own c i (clear .0))
-      (remarked.remarked-drawn H i true (clear .0) l (n l .tally) Wn chunkCarried own-record
-      (λ d e. upd-other (m .tally) c (asked (m .tally c)) d e) _ (⊎-elim stays leaves (bool? (hasClear c k′))))
+  unfolding chunkTaken takenAt markChunk
+  chunk-taken = rw (remarked.base H, bit-own c i (clear .0)) (⊎-elim stays leaves (bool? (hasClear c k′)))

@@ -10,13 +10,16 @@ use lib.Dec.{lit<}
 use Rattle.base.specs.Tests.{pick}
 use Rattle.base.proofs.Cases.{eq?, lt?}
 use Rattle.words.specs.Word.{Bytes, word, setWord}
-use Rattle.words.proofs.Laws.{word-small, word-set-other, setWord-back, setWord-keeps}
+use Rattle.words.proofs.Laws.{word-small, setWord-back}
 use Rattle.records.specs.Layout.{countsPlace, tallyPlace}
 use Rattle.records.specs.Class.{packCounts, packTally, unpackClass, classAt, withClass}
-use Rattle.records.proofs.Laws.{pack-unpack-counts}
+use Rattle.records.specs.Fits.{ClassFits}
+use Rattle.records.specs.Mirror.{firstTo}
+use Rattle.records.proofs.Laws.{first-fits, unpack-pack-class, pack-unpack-counts, unpacked-class-fits}
+use Rattle.records.proofs.Counts.{counts-put}
 use Rattle.model.specs.Classes.{counted}
 use Rattle.model.specs.Calls.{raise}
-use Rattle.classes.specs.Mirror.{chunkAsked, chunkCarried, pageUsed, noneUsed, chunkBorrowed, countUsed, countPageUsed, countBack, chunkRefused}
+use Rattle.classes.specs.Mirror.{chunkAsked, chunkCarried, pageUsed, noneUsed, chunkBorrowed, countUsed, countUsedFirst, countPageUsed, countBack, countBackFirst, chunkRefused}
 use Rattle.classes.proofs.Numbers.{raise-more, raise-stops}
 use Rattle.class_counting.specs.Mirror.{chunkFailed, countsMore, asksMore, failsMore, raisedBy}
 use Rattle.class_counting.specs.declared.Tally.{Tally}
@@ -133,6 +136,15 @@ module _ (v : ℕ) (small : v < 18446744073709551616) where
   unfolding packTally unpackClass
   fails-stop h = omega (arith, raise-stops (v % 4294967296) h)
 
+-- another first page read back from the word of counts
+first-read : (v p : ℕ) → p < 65536 → unpackClass (packCounts (firstTo (unpackClass v 0) p)) 0 ≡ firstTo (unpackClass v 0) p
+first-read v p h =
+    let F : ClassFits (firstTo (unpackClass v 0) p) = first-fits _ p (unpacked-class-fits v 0) h in
+    ap (unpackClass (packCounts (firstTo (unpackClass v 0) p))) (no-tally v p) ∙ unpack-pack-class _ F
+  where
+    no-tally : (v p : ℕ) → 0 ≡ packTally (firstTo (unpackClass v 0) p)
+    no-tally v p = unfold packTally unpackClass in refl
+
 -- ---- in the record: the other word does not matter
 
 counts-used : (a b : ℕ) → packCounts (chunkCarried (unpackClass a 0)) ≡ packCounts (chunkCarried (unpackClass a b))
@@ -154,6 +166,26 @@ tally-back a b h = omega arith
 counts-small : (a : ℕ) → a < 18446744073709551616 → packCounts (chunkBorrowed (unpackClass a 0)) < 18446744073709551616
 unfolding packCounts unpackClass
 counts-small a h = omega arith
+
+counts-used-first : (a b p : ℕ) → packCounts (chunkCarried (firstTo (unpackClass a 0) p)) ≡ packCounts (chunkCarried (firstTo (unpackClass a b) p))
+unfolding packCounts unpackClass
+counts-used-first a b p = refl
+
+tally-used-first : (a b p : ℕ) → packTally (chunkAsked (unpackClass 0 b)) ≡ packTally (chunkCarried (firstTo (unpackClass a b) p))
+unfolding packTally unpackClass
+tally-used-first a b p = refl
+
+counts-back-first : (a b p : ℕ) → packCounts (chunkBorrowed (firstTo (unpackClass a 0) p)) ≡ packCounts (chunkBorrowed (firstTo (unpackClass a b) p))
+unfolding packCounts unpackClass
+counts-back-first a b p = refl
+
+tally-back-first : (a b p : ℕ) → b < 18446744073709551616 → b ≡ packTally (chunkBorrowed (firstTo (unpackClass a b) p))
+unfolding packTally unpackClass
+tally-back-first a b p h = omega arith
+
+counts-first-small : (a p : ℕ) → p < 65536 → packCounts (chunkBorrowed (firstTo (unpackClass a 0) p)) < 18446744073709551616
+unfolding packCounts unpackClass
+counts-first-small a p h = omega arith
 
 tally-page : (a b c : ℕ) → packTally (chunkAsked (unpackClass 0 b)) ≡ packTally (pageUsed c (unpackClass a b))
 unfolding packTally unpackClass
@@ -183,14 +215,24 @@ unfolding packCounts unpackClass
 counts-none a b h = omega arith
 
 module _ (w : ℕ) (s : List ℕ) where
-  pub used-counted : (c k l : ℕ) → k ≡ countsPlace w c → l ≡ tallyPlace w c → (x y : ℕ) → x < 18446744073709551616 → x ≡ word s k → y ≡ word s l
-      → (t : Tally) → t ≡ raisedBy 16777216 true false (record { counts = x; asks = y; peak = 0 })
-      → (s′ s″ : List ℕ) → s′ ≡ setWord s k (t .counts) → s″ ≡ setWord s′ l (t .asks) → s″ ≡ countUsed w s c
-  unfolding countUsed withClass classAt raisedBy countsMore asksMore failsMore pick
-  used-counted c k l counts tally x y small hx hy t r s′ s″ e f =
-      let a : t .counts ≡ packCounts (chunkCarried (unpackClass (word s k) 0)) = ap (λ (u : Tally). u .counts) r ∙ used-carries x small ∙ ap (λ (v : ℕ). packCounts (chunkCarried (unpackClass v 0))) hx in
-      let b : t .asks ≡ packTally (chunkAsked (unpackClass 0 (word s l))) = ap (λ (u : Tally). u .asks) r ∙ ap (λ (v : ℕ). packTally (chunkAsked (unpackClass 0 v))) hy in
-      f ∙ rw (b, tally-used (word s k) (word s l), e, a, counts-used (word s k) (word s l), counts, tally)
+  pub used-put : (k l x y : ℕ) → x < 18446744073709551616 → (t : Tally) → t ≡ raisedBy 16777216 true false (record { counts = x; asks = y; peak = 0 })
+      → (s′ s″ : List ℕ) → s′ ≡ setWord s k (t .counts) → s″ ≡ setWord s′ l (t .asks)
+      → s″ ≡ setWord (setWord s k (packCounts (chunkCarried (unpackClass x 0)))) l (packTally (chunkAsked (unpackClass 0 y)))
+  unfolding raisedBy countsMore asksMore failsMore pick
+  used-put k l x y small t r s′ s″ e f =
+      let a : t .counts ≡ packCounts (chunkCarried (unpackClass x 0)) = ap (λ (u : Tally). u .counts) r ∙ used-carries x small in
+      f ∙ rw (e, a, ap (λ (u : Tally). u .asks) r)
+
+  module _ (c k l : ℕ) (counts : k ≡ countsPlace w c) (tally : l ≡ tallyPlace w c) (x y : ℕ) (hx : x ≡ word s k) (hy : y ≡ word s l) where
+    pub used-counted : (s′ : List ℕ) → s′ ≡ setWord (setWord s k (packCounts (chunkCarried (unpackClass x 0)))) l (packTally (chunkAsked (unpackClass 0 y))) → s′ ≡ countUsed w s c
+    unfolding countUsed withClass classAt
+    used-counted s′ e = e ∙ rw (hx, hy, tally-used (word s k) (word s l), counts-used (word s k) (word s l), counts, tally)
+
+    pub used-first-counted : (p : ℕ) → p < 65536 → (z : ℕ) → z ≡ packCounts (firstTo (unpackClass x 0) p) → (s′ : List ℕ)
+        → s′ ≡ setWord (setWord s k (packCounts (chunkCarried (unpackClass z 0)))) l (packTally (chunkAsked (unpackClass 0 y))) → s′ ≡ countUsedFirst w s c p
+    unfolding countUsedFirst withClass classAt
+    used-first-counted p few z hz s′ e =
+        e ∙ rw (hz, first-read x p few, hx, hy, tally-used-first (word s k) (word s l) p, counts-used-first (word s k) (word s l) p, counts, tally)
 
   pub page-counted : (c k l : ℕ) → k ≡ countsPlace w c → l ≡ tallyPlace w c → (x y : ℕ) → x < 18446744073709551616 → x ≡ word s k → y ≡ word s l
       → (n : ℕ) → n ≡ 16777216 + counted c → (t : Tally) → t ≡ raisedBy n true false (record { counts = x; asks = y; peak = 0 })
@@ -215,10 +257,12 @@ module _ (w : ℕ) (s : List ℕ) where
 
   pub back-counted : Bytes s → (c k : ℕ) → k ≡ countsPlace w c → (s′ : List ℕ)
       → s′ ≡ setWord s k (packCounts (chunkBorrowed (unpackClass (word s k) 0))) → s′ ≡ countBack w s c
-  unfolding countBack withClass classAt
-  back-counted B c k counts s′ e =
-      let l : ℕ = tallyPlace w c in
-      let o : word s′ l ≡ word s l = ap (λ (x : List ℕ). word x l) e ∙ word-set-other s k l _ (λ z. omega arith) in
-      let K : Bytes s′ = rw e (setWord-keeps s k _ B (counts-small (word s k) (word-small s k B))) in
-      let t : word s′ l ≡ packTally (chunkBorrowed (unpackClass (word s k) (word s l))) = o ∙ tally-back (word s k) (word s l) (word-small s l B) in
-      sym (setWord-back s′ l K) ∙ ap (setWord s′ l) t ∙ rw (e, counts-back (word s k) (word s l), counts)
+  unfolding countBack
+  back-counted = counts-put chunkBorrowed counts-back tally-back counts-small w s
+
+  pub back-first-counted : Bytes s → (c k : ℕ) → k ≡ countsPlace w c → (p : ℕ) → p < 65536 → (s′ : List ℕ)
+      → s′ ≡ setWord s k (packCounts (chunkBorrowed (unpackClass (packCounts (firstTo (unpackClass (word s k) 0) p)) 0))) → s′ ≡ countBackFirst w s c p
+  unfolding countBackFirst
+  back-first-counted B c k counts p few s′ e =
+      counts-put (λ r. chunkBorrowed (firstTo r p)) (λ a b. counts-back-first a b p) (λ a b h. tally-back-first a b p h) (λ a h. counts-first-small a p few) w s B c k counts s′
+      (e ∙ rw (first-read (word s k) p few))

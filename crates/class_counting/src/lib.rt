@@ -2,6 +2,7 @@
 // `w` is the number of words of a class record.
 use records::ClassRecord;
 use records::MOST_ASKS;
+use records::PageNumber;
 ghost use mathlib.Core.Path.{_≡_};
 ghost use Prim.Native.Nat.{_+_, _-_, _/_, _<_};
 ghost use lib.ListN.{length};
@@ -11,8 +12,9 @@ ghost use Rattle.records.specs.Class.{packCounts, packTally, unpackClass};
 ghost use Rattle.model.specs.Classes.{counted};
 ghost use lib.Dec.{ltb};
 ghost use Rattle.base.specs.Tests.{pick};
+ghost use Rattle.records.specs.Mirror.{firstTo};
 ghost use Rattle.class_counting.specs.Mirror.{chunkFailed, asksMore, failsMore, usedIn, raisedBy};
-ghost use Rattle.classes.specs.Mirror.{chunkAsked, chunkBack, chunkBorrowed, countUsed, countPageUsed, countBack, countPageBack, chunkRefused};
+ghost use Rattle.classes.specs.Mirror.{chunkAsked, chunkBack, chunkBorrowed, chunkCarried, countUsed, countUsedFirst, countPageUsed, countBack, countBackFirst, countPageBack, chunkRefused};
 
 fn minus(n: u32, less: u16) -> u32
     ensures { λ r. ⌜ r ≡ n - less ⌝ }
@@ -67,6 +69,16 @@ fn count_one_back(pool: &mut [u8], k: usize)
 {
     let v = cells::get_word_in(pool, k);
     cells::put_word_in(pool, k, used_less(v));
+}
+
+// And page p becomes the class's first.
+fn count_first_back(pool: &mut [u8], k: usize, p: PageNumber)
+    requires { ⌜ k < length (now pool) / 8 ⌝ }
+    ensures { λ _. ⌜ now (pool .exit) ≡ setWord (now (pool .entry)) k (packCounts (chunkBorrowed (unpackClass (packCounts (firstTo (unpackClass (word (now (pool .entry)) k) 0) (p .0))) 0))) ⌝ }
+{
+    let v = cells::get_word_in(pool, k);
+    let first = list_heads::first_changed(v, p);
+    cells::put_word_in(pool, k, used_less(first));
 }
 
 // ---- the tally of a class: the word of its counts, the word of its asks and failures, and its peak
@@ -134,6 +146,21 @@ pub fn raised_by_loan(t: Tally, more: u64, asks: bool, fails: bool) -> Tally
 
 // ---- in the records; the peak, where there is one, is raised when the call ends
 
+// Counts and asks with a chunk more, into their words.
+fn put_used(pool: &mut [u8], k: usize, l: usize, counts: u64, asks: u64)
+    requires { ⌜ (k < length (now pool) / 8) × (l < length (now pool) / 8) ⌝ }
+    ensures { λ _. ⌜ now (pool .exit) ≡ setWord (setWord (now (pool .entry)) k (packCounts (chunkCarried (unpackClass counts 0)))) l (packTally (chunkAsked (unpackClass 0 asks))) ⌝ }
+{
+    let t = Tally {
+        counts: counts,
+        asks: asks,
+        peak: 0,
+    };
+    let r = raised_by_loan(t, ONE_USED, true, false);
+    cells::put_word_in(pool, k, r.counts);
+    cells::put_word_in(pool, l, r.asks);
+}
+
 // A chunk of class c was handed out.
 pub fn count_used(pool: &mut [u8], w: u8, c: u8)
     requires { ⌜ tallyPlace w c < length (now pool) / 8 ⌝ }
@@ -143,14 +170,19 @@ pub fn count_used(pool: &mut [u8], w: u8, c: u8)
     let l = records::place(2, w, c as u16);
     let counts = cells::get_word_in(pool, k);
     let asks = cells::get_word_in(pool, l);
-    let t = Tally {
-        counts: counts,
-        asks: asks,
-        peak: 0,
-    };
-    let r = raised_by_loan(t, ONE_USED, true, false);
-    cells::put_word_in(pool, k, r.counts);
-    cells::put_word_in(pool, l, r.asks);
+    put_used(pool, k, l, counts, asks);
+}
+
+// And page p becomes the class's first, written with the counts in whose word it stands: written before them it costs 2 % of a batch's time.
+pub fn count_used_first(pool: &mut [u8], w: u8, c: u8, p: PageNumber)
+    requires { ⌜ tallyPlace w c < length (now pool) / 8 ⌝ }
+    ensures { λ _. ⌜ now (pool .exit) ≡ countUsedFirst w (now (pool .entry)) c (p .0) ⌝ }
+{
+    let k = records::place(1, w, c as u16);
+    let l = records::place(2, w, c as u16);
+    let counts = cells::get_word_in(pool, k);
+    let asks = cells::get_word_in(pool, l);
+    put_used(pool, k, l, list_heads::first_changed(counts, p), asks);
 }
 
 // What the counts rise by where a page is new: one used, and in all as many as serve callers.
@@ -198,6 +230,14 @@ pub fn count_back(pool: &mut [u8], w: u8, c: u8)
     ensures { λ _. ⌜ now (pool .exit) ≡ countBack w (now (pool .entry)) c ⌝ }
 {
     count_one_back(pool, records::place(1, w, c as u16));
+}
+
+// And page p becomes the class's first.
+pub fn count_back_first(pool: &mut [u8], w: u8, c: u8, p: PageNumber)
+    requires { ⌜ countsPlace w c < length (now pool) / 8 ⌝ }
+    ensures { λ _. ⌜ now (pool .exit) ≡ countBackFirst w (now (pool .entry)) c (p .0) ⌝ }
+{
+    count_first_back(pool, records::place(1, w, c as u16), PageNumber(p.0));
 }
 
 pub fn count_page_back(pool: &mut [u8], w: u8, c: u8)

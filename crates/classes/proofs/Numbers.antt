@@ -2,7 +2,7 @@
 use mathlib.Core.Path.{_≡_, refl}
 use mathlib.Core.Logic.{⊎-elim, _≢_}
 use mathlib.Core.Bool.{false, not}
-use Prim.Native.Nat.{ℕ, zero, suc, _+_, _-_, _*_, _/_, _^_, _≤_, _<_}
+use Prim.Native.Nat.{ℕ, zero, suc, _+_, _-_, _*_, _/_, _%_, _^_, _≤_, _<_}
 use native.Mathlib.Nat.{mul-le-mul-left}
 use native.Mathlib.Omega.{arith}
 use borrow.Author.Needs.{needs}
@@ -134,6 +134,22 @@ own-small zero = omega arith
 own-small (suc zero) = omega arith
 own-small (suc (suc zero)) = omega arith
 own-small (suc (suc (suc c))) = omega arith
+
+-- without a choice, for the nine classes
+digits : any (λ c. not (eqb (296 / 2 ^ (4 * c) % 16) (own c))) 9 ≡ false
+unfolding any least own
+digits = refl
+
+pub own-digit : (c : ℕ) → c < 9 → 296 / 2 ^ (4 * c) % 16 ≡ own c
+own-digit c h = eqb-true _ _ (not-false _ (any-false (λ d. not (eqb (296 / 2 ^ (4 * d) % 16) (own d))) 9 digits c h))
+
+tops : any (λ c. not (eqb (18446744073709551615 - 18446744073709551615 / 2 ^ own c) (ownWord c))) 9 ≡ false
+unfolding any least own ownWord
+tops = refl
+
+pub own-shifted : (c : ℕ) → c < 9 → (n : ℕ) → n ≡ own c → 18446744073709551615 - 18446744073709551615 / 2 ^ n ≡ ownWord c
+own-shifted c h n e =
+    rw e (eqb-true _ _ (not-false _ (any-false (λ d. not (eqb (18446744073709551615 - 18446744073709551615 / 2 ^ own d) (ownWord d))) 9 tops c h)))
 
 -- the top bits that mark them
 pub own-word-0 : (c : ℕ) → c ≡ 0 → 18374686479671623680 ≡ ownWord c

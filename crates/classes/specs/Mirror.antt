@@ -8,7 +8,7 @@ use Rattle.base.specs.Tests.{pick}
 use Rattle.records.specs.Layout.{mapPlace}
 use Rattle.records.specs.declared.ClassRecord.{ClassRecord}
 use Rattle.records.specs.Class.{classAt, withClass}
-use Rattle.records.specs.Mirror.{usedTo, totalTo, reqsTo, failsTo}
+use Rattle.records.specs.Mirror.{firstTo, usedTo, totalTo, reqsTo, failsTo}
 use Rattle.model.specs.Classes.{own, counted}
 use Rattle.model.specs.Calls.{raise}
 
@@ -82,11 +82,18 @@ pageBack c r = totalTo (chunkBack r) (r .total - counted c)
 unfoldable pub countUsed : (w : ℕ) (s : List ℕ) (c : ℕ) → List ℕ
 countUsed w s c = withClass w s c (chunkCarried (classAt w s c))
 
+-- the same where page p becomes the class's first, which stands in the word of counts too
+unfoldable pub countUsedFirst : (w : ℕ) (s : List ℕ) (c p : ℕ) → List ℕ
+countUsedFirst w s c p = withClass w s c (chunkCarried (firstTo (classAt w s c) p))
+
 unfoldable pub countPageUsed : (w : ℕ) (s : List ℕ) (c : ℕ) → List ℕ
 countPageUsed w s c = withClass w s c (pageUsed c (classAt w s c))
 
 unfoldable pub countBack : (w : ℕ) (s : List ℕ) (c : ℕ) → List ℕ
 countBack w s c = withClass w s c (chunkBorrowed (classAt w s c))
+
+unfoldable pub countBackFirst : (w : ℕ) (s : List ℕ) (c p : ℕ) → List ℕ
+countBackFirst w s c p = withClass w s c (chunkBorrowed (firstTo (classAt w s c) p))
 
 unfoldable pub countPageBack : (w : ℕ) (s : List ℕ) (c : ℕ) → List ℕ
 countPageBack w s c = withClass w s c (pageBack c (classAt w s c))

@@ -33,6 +33,16 @@ pub fn own_count(c: u8) -> u16
     }
 }
 
+// The same without a choice, where the caller knows that c is a class: digit c of a number in hexadecimal.
+pub fn class_own(c: u8) -> u16
+    requires { ⌜ c ≤ 8 ⌝ }
+    ensures answer { λ r. ⌜ r ≡ own c ⌝ }
+    ensures bound { λ r. ⌜ r ≤ 8 ⌝ }
+{
+    let digits: u64 = 296;
+    ((digits >> (4 * c)) % 16) as u16
+}
+
 // The top bits of a map's first word that mark them.
 pub fn own_word(c: u8) -> u64
     ensures { λ r. ⌜ r ≡ ownWord c ⌝ }
@@ -43,6 +53,14 @@ pub fn own_word(c: u8) -> u64
         2 => 9223372036854775808,
         _ => 0,
     }
+}
+
+// The same without a choice, where the caller knows that c is a class.
+pub fn class_own_word(c: u8) -> u64
+    requires { ⌜ c ≤ 8 ⌝ }
+    ensures { λ r. ⌜ r ≡ ownWord c ⌝ }
+{
+    !(18446744073709551615 >> class_own(c))
 }
 
 // The bytes of a map: in a page a bit for each chunk, in a record 8.

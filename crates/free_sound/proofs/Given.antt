@@ -6,17 +6,16 @@ use Prim.Native.Nat.{ℕ, _+_, _*_, _/_, _%_, _≤_, _<_}
 use native.Mathlib.Omega.{arith}
 use lib.ListN.{length}
 use Rattle.base.proofs.AllBelow.{pick-yes, pick-no}
-use Rattle.records.specs.Layout.{countsPlace}
+use Rattle.records.specs.Layout.{countsPlace, linksPlace}
 use Rattle.answers.specs.Outcome.{Outcome, granted, refused}
 use Rattle.answers.specs.declared.Refusal.the-variants.{NotTaken}
-use Rattle.model.specs.Classes.{chunk}
+use Rattle.model.specs.Classes.{chunk, chunks}
 use Rattle.maps.specs.Bitmap.{mark}
 use Rattle.map_places.proofs.Places.{base-word}
-use Rattle.map_occupancy.specs.Mirror.{bitFor}
 use Rattle.classes.specs.Mirror.{Whole, mapWord}
-use Rattle.classes.proofs.Numbers.{tally-whole, map-whole}
+use Rattle.classes.proofs.Numbers.{chunks-512, tally-whole, links-whole, map-whole}
 use Rattle.chunks.specs.Mirror.{freedAt, chunkFreed}
-use Rattle.chunks.proofs.Marks.{paged-mark, recorded-mark}
+use Rattle.chunks.proofs.Marks.{chunk-mark}
 use Rattle.free_sound.specs.Mirror.{marked, chunkOutcome, chunkSlice}
 
 module _ (w : ℕ) (s : List ℕ) (P c p k : ℕ) (place : k ≡ mapWord w P p c) where
@@ -24,25 +23,18 @@ module _ (w : ℕ) (s : List ℕ) (P c p k : ℕ) (place : k ≡ mapWord w P p c
     pub counts-in : c ≤ 8 → countsPlace w c < length s / 8
     counts-in h = omega (arith, tally-whole w P (length s / 8) (whole .0) (whole .1) c h)
 
-    eight-in : p < P → k + 8 < length s / 8
-    eight-in h = rw place (map-whole w P (length s / 8) (whole .0) (whole .1) p h c)
+    pub links-in : p < P → linksPlace w p < length s / 8
+    links-in h = links-whole w P (length s / 8) (whole .0) (whole .1) p h
 
-    pub map-in : p < P → k < length s / 8
-    map-in h = omega (arith, eight-in h)
-
-    pub mark-in : p < P → (i : ℕ) → i < 512 → k + i / 64 < length s / 8
-    mark-in h i l = omega (arith, eight-in h)
+    pub mark-in : p < P → (i : ℕ) → i < chunks c → k + i / 64 < length s / 8
+    mark-in h i l =
+        let e : k + 8 < length s / 8 = rw place (map-whole w P (length s / 8) (whole .0) (whole .1) p h c) in
+        omega (arith, chunks-512 c)
 
   module _ (i : ℕ) (r : Bool) where
-    there : r ≡ mark s (8 * k) (bitFor c i) → r ≡ marked w s P c p i
+    pub chunk-told : i < chunks c → r ≡ mark s (8 * (k + i / 64)) (i % 64) → r ≡ marked w s P c p i
     unfolding marked
-    there e = e ∙ rw (place, base-word w P p c)
-
-    pub paged-marked : c < 3 → r ≡ mark s (8 * (k + i / 64)) (i % 64) → r ≡ marked w s P c p i
-    paged-marked small e = there (e ∙ paged-mark s k c i small)
-
-    pub recorded-marked : 3 ≤ c → r ≡ mark s (8 * k) (i % 64) → r ≡ marked w s P c p i
-    recorded-marked large e = there (e ∙ recorded-mark s k c i large)
+    chunk-told own e = e ∙ chunk-mark s k c i own ∙ rw (place, base-word w P p c)
 
     module _ (told : r ≡ marked w s P c p i) where
       pub not-marked : r ≡ false → (refused NotTaken ≡ chunkOutcome w s P c p i) × (s ≡ chunkSlice w s P c p i)

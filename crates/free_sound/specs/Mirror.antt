@@ -5,7 +5,7 @@ use mathlib.Core.List.{List}
 use Rattle.base.specs.Tests.{pick}
 use Rattle.answers.specs.Outcome.{Outcome, granted, refused}
 use Rattle.answers.specs.declared.Refusal.the-variants.{NotTaken}
-use Rattle.model.specs.Classes.{chunk}
+use Rattle.model.specs.Classes.{chunk, chunks}
 use Rattle.maps.specs.Bitmap.{mark}
 use Rattle.rules.specs.Bytes.{mapBase}
 use Rattle.run_neighbours.specs.Mirror.{pagesReleased}
@@ -15,9 +15,9 @@ use Rattle.locate.specs.declared.Found.{Found}
 use Rattle.locate.specs.declared.Found.the-variants as found
 use Rattle.locate.specs.Mirror.{located}
 
--- a chunk is of one of the nine classes, and of one of the pages
+-- a chunk is of one of the nine classes, of one of the pages, and one of its page's chunks
 abbrev pub Classed : ℕ → Found → Type 0
-Classed P (found.Chunk k) = (k .class ≤ 8) × (k .page .0 < P)
+Classed P (found.Chunk k) = (k .class ≤ 8) × (k .page .0 < P) × (k .index < chunks (k .class))
 Classed P (found.Run r) = Unit {0}
 Classed P (found.Refused r) = Unit {0}
 

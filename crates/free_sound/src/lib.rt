@@ -11,7 +11,7 @@ use records::PageNumber;
 ghost use mathlib.Core.Path.{_≡_};
 ghost use Prim.Native.Nat.{_*_, _%_, _≤_, _<_};
 ghost use Rattle.answers.specs.Outcome.{granted, ofFree};
-ghost use Rattle.model.specs.Classes.{chunk};
+ghost use Rattle.model.specs.Classes.{chunk, chunks};
 ghost use Rattle.classes.specs.Mirror.{Whole};
 ghost use Rattle.run_neighbours.specs.Mirror.{pagesReleased};
 ghost use Rattle.free_sound.specs.Mirror.{Classed, chunkOutcome, chunkSlice, foundOutcome, foundSlice, freeOutcome, freeSlice};
@@ -38,45 +38,26 @@ fn give(pool: &mut [u8], w: u8, pages: u16, f: Found) -> Freed
     }
 }
 
-// Where the map lies is asked once.
 fn give_chunk(pool: &mut [u8], w: u8, pages: u16, k: ChunkAt) -> Freed
-    requires { ⌜ (k .class ≤ 8) × (k .page .0 < pages) × Whole w (now pool) pages ⌝ }
+    requires { ⌜ (k .class ≤ 8) × (k .page .0 < pages) × (k .index < chunks (k .class)) × Whole w (now pool) pages ⌝ }
     ensures answer { λ r. ⌜ ofFree r ≡ chunkOutcome w (now (pool .entry)) pages (k .class) (k .page .0) (k .index % 512) ⌝ }
     ensures slice { λ _. ⌜ now (pool .exit) ≡ chunkSlice w (now (pool .entry)) pages (k .class) (k .page .0) (k .index % 512) ⌝ }
 {
     let i = (k.index % 512) as u16;
-    if k.class < 3 {
-        give_paged(pool, w, pages, k.class, PageNumber(k.page.0), i)
-    } else {
-        give_recorded(pool, w, pages, k.class, PageNumber(k.page.0), i)
-    }
+    give_marked(pool, w, pages, k.class, PageNumber(k.page.0), i)
 }
 
-// Chunk i of page p, where it is taken. The map lies in the page.
-fn give_paged(pool: &mut [u8], w: u8, pages: u16, c: u8, p: PageNumber, i: u16) -> Freed
-    requires { ⌜ (c < 3) × (p .0 < pages) × (i < 512) × Whole w (now pool) pages ⌝ }
+// Chunk i of page p, where it is taken.
+fn give_marked(pool: &mut [u8], w: u8, pages: u16, c: u8, p: PageNumber, i: u16) -> Freed
+    requires { ⌜ (c ≤ 8) × (p .0 < pages) × (i < chunks c) × Whole w (now pool) pages ⌝ }
     ensures answer { λ r. ⌜ ofFree r ≡ chunkOutcome w (now (pool .entry)) pages c (p .0) i ⌝ }
     ensures slice { λ _. ⌜ now (pool .exit) ≡ chunkSlice w (now (pool .entry)) pages c (p .0) i ⌝ }
 {
-    let k = map_places::paged_word(w, pages, p, c);
+    let k = map_places::map_word(w, pages, p, c);
     if !map_marks::get_mark_in(pool, k + (i / 64) as usize, i) {
         return Freed::Refused(Refusal::NotTaken);
     }
-    chunk_free::free_paged(pool, w, pages, c, p, k, i);
-    bytes_of(c)
-}
-
-// It lies in the record.
-fn give_recorded(pool: &mut [u8], w: u8, pages: u16, c: u8, p: PageNumber, i: u16) -> Freed
-    requires { ⌜ (3 ≤ c) × (c ≤ 8) × (p .0 < pages) × Whole w (now pool) pages ⌝ }
-    ensures answer { λ r. ⌜ ofFree r ≡ chunkOutcome w (now (pool .entry)) pages c (p .0) i ⌝ }
-    ensures slice { λ _. ⌜ now (pool .exit) ≡ chunkSlice w (now (pool .entry)) pages c (p .0) i ⌝ }
-{
-    let k = map_places::recorded_word(w, pages, p, c);
-    if !map_marks::get_mark_in(pool, k, i) {
-        return Freed::Refused(Refusal::NotTaken);
-    }
-    chunk_free::free_recorded(pool, w, pages, c, p, k, i);
+    chunk_free::free_chunk(pool, w, pages, c, p, k, i);
     bytes_of(c)
 }
 

@@ -41,7 +41,7 @@ fn put_first_run(pool: &mut [u8], p: PageNumber)
 }
 
 // The first page is the top 16 bits of the word of counts; no other word of the record changes.
-fn first_changed(v: u64, p: PageNumber) -> u64
+pub fn first_changed(v: u64, p: PageNumber) -> u64
     ensures { λ r. ⌜ r ≡ packCounts (firstTo (unpackClass v 0) (p .0)) ⌝ }
 {
     p.0 as u64 * 281474976710656 + v % 281474976710656

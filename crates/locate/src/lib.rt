@@ -106,7 +106,7 @@ fn chunk_within(c: u8, p: PageNumber, within: u32) -> Found
 
 // The chunk of so many bytes that begins `within` bytes into the page, where one does.
 fn chunk_sized(c: u8, p: PageNumber, within: u32, size: u32) -> Found
-    requires { ⌜ 1 ≤ size ⌝ }
+    requires { ⌜ (c ≤ 8) × (1 ≤ size) ⌝ }
     ensures { λ r. ⌜ r ≡ sizedFound c (p .0) within size ⌝ }
 {
     if within % size == 0 {
@@ -117,9 +117,10 @@ fn chunk_sized(c: u8, p: PageNumber, within: u32, size: u32) -> Found
 }
 
 fn chunk_start(c: u8, p: PageNumber, i: u16) -> Found
+    requires { ⌜ c ≤ 8 ⌝ }
     ensures { λ r. ⌜ r ≡ startFound c (p .0) i ⌝ }
 {
-    let own = classes::own_count(c);
+    let own = classes::class_own(c);
     chunk_past(c, p, i, own)
 }
 

@@ -1,4 +1,4 @@
--- What the three tests say of the marks m of a page of class c, where the map shows them.
+-- What the tests say of the marks m of a page of class c, where the map shows them.
 use mathlib.Core.Path.{_≡_, refl, sym, ap, _∙_}
 use mathlib.Core.Logic.{_⊎_, inl, inr, ⊎-elim, _≢_}
 use mathlib.Core.Bool.{Bool, true, false, not}
@@ -21,8 +21,8 @@ use Rattle.maps.proofs.Words.{word-marks}
 use Rattle.model.specs.Classes.{chunks, own, hasClear, hasTaken}
 use Rattle.model.proofs.Classes.{none-taken, some-taken, large-chunks}
 use Rattle.map_count.specs.Mirror.{mapBits}
-use Rattle.map_occupancy.specs.Mirror.{marksAre, fullMarks, ownMarks, isFull, wasFull, lastFree, lastTaken}
-use Rattle.map_occupancy.proofs.Words.{whole-words, bit-own, full-bits, free-bits}
+use Rattle.map_occupancy.specs.Mirror.{marksAre, fullMarks, ownMarks, isFull, lastFree, lastTaken}
+use Rattle.map_occupancy.proofs.Words.{whole-words, bit-own, free-bits}
 
 -- one of the tests that all must pass, made first
 first-of : (t u : Bool) → (u ≡ true → t ≡ true) → pick t u false ≡ u
@@ -92,12 +92,6 @@ module _ (s : List ℕ) (B : Bytes s) (k c : ℕ) (inside : k + mapBits c / 64 �
       at-word : (e : ℕ → Bool) → marksAre s k (mapBits c / 64) e ≡ true → eqb (word s (k + i / 64)) (bitsOf (λ b. e (64 * (i / 64) + b)) 64) ≡ true
       unfolding marksAre
       at-word e h = all-at _ (mapBits c / 64) h (i / 64) own-at
-
-      pub was-full-is : wasFull s k c i ≡ not (hasClear c m)
-      unfolding wasFull isFull
-      was-full-is =
-          rw (bit-own c i inside-page)
-          (first-of _ _ (λ h. ap (eqb (word s (k + i / 64))) (full-bits s k c _ (i / 64) refl own-at) ∙ at-word (fullMarks c) h) ∙ full-is)
 
       pub last-free-is : m i ≡ false → lastFree s k c i ≡ not (hasClear c (upd m i true))
       unfolding lastFree

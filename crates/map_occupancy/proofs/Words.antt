@@ -23,7 +23,7 @@ use Rattle.model.proofs.Classes.{large-chunks}
 use Rattle.map_count.specs.Mirror.{mapBits}
 use Rattle.classes.specs.Mirror.{ownWord}
 use Rattle.classes.proofs.Numbers.{chunks-past, chunks-512, own-past, own-small}
-use Rattle.map_occupancy.specs.Mirror.{marksAre, fullMarks, ownMarks, isFull, wasFull, lastFree, lastTaken, bitFor, expected, wordsAre, wordsFrom}
+use Rattle.map_occupancy.specs.Mirror.{marksAre, fullMarks, ownMarks, isFull, lastFree, lastTaken, bitFor, expected, wordsAre, wordsFrom}
 
 -- ---- the words of the classes, by tables; 9 stands for all past 8
 
@@ -61,15 +61,11 @@ taken-few : (c r : ℕ) → c < 4 → r < 64 → bitOr (ownWord c) (922337203685
 unfolding any least own ownMarks ownWord bitsOf upd
 taken-few c r h l = pairs (λ c r. bitOr (ownWord c) (9223372036854775808 / 2 ^ r)) (λ c r. bitsOf (upd (ownMarks c) r true) 64) 4 refl c r h l
 
--- all of a word but one mark, and one mark alone
+-- all of a word but one mark
 but-one : (r : ℕ) → r < 64 → 18446744073709551615 - 9223372036854775808 / 2 ^ r ≡ bitAnd 18446744073709551615 (18446744073709551615 - 9223372036854775808 / 2 ^ r)
 unfolding any least
 but-one r l =
     table (λ r. 18446744073709551615 - 9223372036854775808 / 2 ^ r) (λ r. bitAnd 18446744073709551615 (18446744073709551615 - 9223372036854775808 / 2 ^ r)) 64 refl r l
-
-one-mark : (r : ℕ) → r < 64 → 9223372036854775808 / 2 ^ r ≡ bitOr 0 (9223372036854775808 / 2 ^ r)
-unfolding any least
-one-mark r l = table (λ r. 9223372036854775808 / 2 ^ r) (λ r. bitOr 0 (9223372036854775808 / 2 ^ r)) 64 refl r l
 
 module _ (c : ℕ) where
   -- the shift that the code makes
@@ -138,7 +134,7 @@ module _ (c : ℕ) where
   unfolding any least mapBits pick chunks
   words-paged l = table (λ x. 8 / 2 ^ x) (λ x. mapBits x / 64) 3 refl c l
 
-  words-recorded : 3 ≤ c → mapBits c / 64 ≡ 1
+  pub words-recorded : 3 ≤ c → mapBits c / 64 ≡ 1
   unfolding mapBits pick
   words-recorded l = rw (le-ltb c 3 l)
 
@@ -153,10 +149,6 @@ module _ (c : ℕ) where
   -- of a chunk that the page has
   pub bit-own : (i : ℕ) → i < chunks c → bitFor c i ≡ i
   bit-own i h = ⊎-elim (λ (l : c < 3). bit-paged i l) (λ (l : 3 ≤ c). bit-recorded i l ∙ omega (arith, large-chunks c l)) (lt? c 3)
-
-  own-none-recorded : 3 ≤ c → 0 ≡ ownWord c
-  unfolding ownWord own
-  own-none-recorded l = rw (past-3 c l) refl
 
 -- no own marks
 own-word-3 : 0 ≡ ownWord 3
@@ -227,7 +219,7 @@ module _ (s : List ℕ) (k c : ℕ) where
   pub free-bits : (i j : ℕ) → j < mapBits c / 64 → j ≡ i / 64 → bitsOf (λ b. upd (fullMarks c) i false (64 * j + b)) 64 ≡ bitsOf (upd (fullMarks c) (i % 64) false) 64
   free-bits i j l z = same-word (fullMarks c) i j false z ∙ bits-ext _ _ 64 (λ b h. upd-at _ _ (i % 64) false b (full-same c j b l h))
 
-  pub full-bits : (x j : ℕ) → x ≡ bitsOf (fullMarks c) 64 → j < mapBits c / 64 → x ≡ bitsOf (λ b. fullMarks c (64 * j + b)) 64
+  full-bits : (x j : ℕ) → x ≡ bitsOf (fullMarks c) 64 → j < mapBits c / 64 → x ≡ bitsOf (λ b. fullMarks c (64 * j + b)) 64
   full-bits x j e l = e ∙ sym (bits-ext _ _ 64 (λ b h. full-same c j b l h))
 
   -- whichever word is named apart
@@ -300,10 +292,6 @@ module _ (s : List ℕ) (k c : ℕ) where
   pub full-paged-told : (m : ℕ) (r : Bool) → c < 3 → m ≡ mapBits c / 64 → r ≡ wordsAre s k m 18446744073709551615 18446744073709551615 8 18446744073709551615 → r ≡ isFull s k c
   full-paged-told m r l d q = q ∙ full-all _ m 8 (full-paged c l) d
 
-  pub was-paged-told : (i m : ℕ) (r : Bool) → c < 3 → m ≡ mapBits c / 64 → r ≡ wordsFrom s k m 18446744073709551615 18446744073709551615 (i / 64) 18446744073709551615 → r ≡ wasFull s k c i
-  unfolding wasFull wordsFrom
-  was-paged-told i m r l d q = let e = full-paged c l in rw (bit-paged c i l) (q ∙ first-then (i / 64) _ _ _ _ e (full-all _ m (i / 64) e d))
-
   pub free-paged-told : (i o m : ℕ) (r : Bool) → c < 3 → o ≡ 18446744073709551615 - 9223372036854775808 / 2 ^ (i % 64) → m ≡ mapBits c / 64
       → r ≡ wordsFrom s k m 18446744073709551615 18446744073709551615 (i / 64) o → r ≡ lastFree s k c i
   unfolding lastFree wordsFrom
@@ -312,10 +300,12 @@ module _ (s : List ℕ) (k c : ℕ) where
       let f = p ∙ but-one (i % 64) (omega arith) in
       rw (bit-paged c i l) (q ∙ first-then (i / 64) o _ _ _ (free-odd i _ o e f) (free-told i _ o m e f d))
 
-  pub taken-paged-told : (i x o m : ℕ) (r : Bool) → c < 3 → x ≡ ownWord c → o ≡ bitOr (pick (eqb (i / 64) 0) x 0) (9223372036854775808 / 2 ^ (i % 64)) → m ≡ mapBits c / 64
+  -- ---- wherever the map lies
+
+  pub last-taken-told : (i x o m : ℕ) (r : Bool) → i < chunks c → x ≡ ownWord c → o ≡ bitOr (pick (eqb (i / 64) 0) x 0) (9223372036854775808 / 2 ^ (i % 64)) → m ≡ mapBits c / 64
       → r ≡ wordsFrom s k m x 0 (i / 64) o → r ≡ lastTaken s k c i
   unfolding lastTaken wordsFrom
-  taken-paged-told i x o m r l e p d q = rw (bit-paged c i l) (q ∙ first-then (i / 64) o _ _ _ (taken-odd i x o (i / 64) e p refl) (taken-told i x o m e p d))
+  last-taken-told i x o m r l e p d q = rw (bit-own c i l) (q ∙ first-then (i / 64) o _ _ _ (taken-odd i x o (i / 64) e p refl) (taken-told i x o m e p d))
 
   -- ---- maps in the record
 
@@ -331,12 +321,6 @@ module _ (s : List ℕ) (k c : ℕ) where
       none : 0 ≡ i % 64 / 64
       none = omega arith
 
-      pub was-recorded-told : (r : Bool) → r ≡ isFull s k c → r ≡ wasFull s k c i
-      unfolding wasFull
-      was-recorded-told r d =
-          let x = bitsOf (fullMarks c) 64 in
-          rw (bit-recorded c i large) (first-alone (i % 64 / 64) x x r _ (sym none) refl (d ∙ sym (full-recorded-told x _ refl refl)) d)
-
       pub free-recorded-told : (x : ℕ) (r : Bool) → x ≡ bitsOf (fullMarks c) 64 → r ≡ eqb (word s k) (bitAnd x (18446744073709551615 - 9223372036854775808 / 2 ^ (i % 64))) → r ≡ lastFree s k c i
       unfolding lastFree
       free-recorded-told x r e q =
@@ -345,14 +329,3 @@ module _ (s : List ℕ) (k c : ℕ) where
           (first-alone (i % 64 / 64) o _ r _ (sym none) (free-odd i x o e refl) q
           (one-word s k (mapBits c / 64) x x (i % 64 / 64) o o r (words-recorded c large) (sym (expected-odd x x (i % 64 / 64) o 0 none)) q
           ∙ free-told (i % 64) x o (mapBits c / 64) e (rw low) refl))
-
-      pub taken-recorded-told : (r : Bool) → r ≡ eqb (word s k) (9223372036854775808 / 2 ^ (i % 64)) → r ≡ lastTaken s k c i
-      unfolding lastTaken
-      taken-recorded-told r q =
-          let o = 9223372036854775808 / 2 ^ (i % 64) in
-          let z : _≡_ {A = ℕ} (pick (eqb (i % 64 / 64) 0) 0 0) 0 = pick-yes _ _ _ (eq-eqb (i % 64 / 64) 0 (sym none)) in
-          let f : o ≡ bitOr (pick (eqb (i % 64 / 64) 0) 0 0) (9223372036854775808 / 2 ^ (i % 64 % 64)) = one-mark (i % 64) (omega arith) ∙ rw (z, low) refl in
-          rw (bit-recorded c i large)
-          (first-alone (i % 64 / 64) o _ r _ (sym none) (taken-odd (i % 64) 0 o (i % 64 / 64) (own-none-recorded c large) f refl) q
-          (one-word s k (mapBits c / 64) 0 0 (i % 64 / 64) o o r (words-recorded c large) (sym (expected-odd 0 0 (i % 64 / 64) o 0 none)) q
-          ∙ taken-told (i % 64) 0 o (mapBits c / 64) (own-none-recorded c large) f refl))

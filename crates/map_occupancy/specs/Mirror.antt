@@ -29,11 +29,7 @@ bitFor c i = pick (ltb c 3) i (i % 64)
 unfoldable pub isFull : (s : List ℕ) (k c : ℕ) → Bool
 isFull s k c = marksAre s k (mapBits c / 64) (fullMarks c)
 
--- the same of the page of chunk i; the word that has its bit is looked at first
-unfoldable pub wasFull : (s : List ℕ) (k c i : ℕ) → Bool
-wasFull s k c i = pick (eqb (word s (k + bitFor c i / 64)) (bitsOf (fullMarks c) 64)) (isFull s k c) false
-
--- chunk i alone is free; likewise
+-- chunk i alone is free; the word that has its bit is looked at first
 unfoldable pub lastFree : (s : List ℕ) (k c i : ℕ) → Bool
 lastFree s k c i =
     pick (eqb (word s (k + bitFor c i / 64)) (bitsOf (upd (fullMarks c) (i % 64) false) 64))

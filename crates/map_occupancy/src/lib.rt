@@ -6,9 +6,10 @@ ghost use lib.Dec.{eqb};
 ghost use lib.ListN.{length};
 ghost use Rattle.base.specs.Tests.{pick};
 ghost use Rattle.words.specs.Word.{word};
+ghost use Rattle.model.specs.Classes.{chunks};
 ghost use Rattle.maps.specs.Bitmap.{bitsOf};
 ghost use Rattle.map_count.specs.Mirror.{mapBits};
-ghost use Rattle.map_occupancy.specs.Mirror.{expected, wordsAre, wordsFrom, fullMarks, isFull, wasFull, lastFree, lastTaken};
+ghost use Rattle.map_occupancy.specs.Mirror.{expected, wordsAre, wordsFrom, fullMarks, isFull, lastFree, lastTaken};
 
 // Each word of the map of a full page of class 0, 1 or 2.
 const FULL: u64 = 18446744073709551615;
@@ -29,6 +30,14 @@ pub fn word_count(c: u8) -> usize
     ensures bound { λ r. ⌜ r ≤ 8 ⌝ }
 {
     8 >> c
+}
+
+// The words of a map, wherever it lies.
+fn map_words(c: u8) -> usize
+    ensures answer { λ r. ⌜ r ≡ mapBits c / 64 ⌝ }
+    ensures bound { λ r. ⌜ r ≤ 8 ⌝ }
+{
+    if c < 3 { word_count(c) } else { 1 }
 }
 
 // Word j of a map that has `odd` as word `at`, and else begins with `first` and goes on with `rest`.
@@ -101,28 +110,11 @@ fn full_paged(pool: &[u8], k: usize, c: u8) -> bool
     all_words(pool, k, m, FULL, FULL, 8, FULL)
 }
 
-// Whether the page of its chunk i is full: the word that has the chunk's mark is compared first.
-pub fn was_full_paged(pool: &[u8], k: usize, c: u8, i: u16) -> bool
-    requires { ⌜ (c < 3) × (k < 67108864) × (k + i / 64 < length (now pool) / 8) ⌝ }
-    ensures { λ r. ⌜ r ≡ wasFull (now (pool .entry)) k c i ⌝ }
-{
-    let m = word_count(c);
-    words_from(pool, k, m, FULL, FULL, (i / 64) as usize, FULL)
-}
-
 fn full_in_record(pool: &[u8], k: usize, c: u8) -> bool
     requires { ⌜ 3 ≤ c ⌝ }
     ensures { λ r. ⌜ r ≡ isFull (now (pool .entry)) k c ⌝ }
 {
     word_is(pool, k, full_word(c))
-}
-
-// The same, where the caller knows that the word is whole.
-pub fn full_recorded(pool: &[u8], k: usize, c: u8) -> bool
-    requires { ⌜ (3 ≤ c) × (k < length (now pool) / 8) ⌝ }
-    ensures { λ r. ⌜ r ≡ isFull (now (pool .entry)) k c ⌝ }
-{
-    word_in_is(pool, k, full_word(c))
 }
 
 // Whether chunk i is its only free chunk.
@@ -148,21 +140,14 @@ fn first_or_none(at: usize, v: u64) -> u64
     if at == 0 { v } else { 0 }
 }
 
-// Whether chunk i is the only one in a caller's hands.
-pub fn last_taken_paged(pool: &[u8], k: usize, c: u8, i: u16) -> bool
-    requires { ⌜ (c < 3) × (k < 67108864) × (k + i / 64 < length (now pool) / 8) ⌝ }
+// Whether chunk i is the only one in a caller's hands, wherever the map lies: a free mostly finds that it is not, by one word.
+pub fn last_taken(pool: &[u8], k: usize, c: u8, i: u16) -> bool
+    requires { ⌜ (c ≤ 8) × (i < chunks c) × (k < 67108864) × (k + i / 64 < length (now pool) / 8) ⌝ }
     ensures { λ r. ⌜ r ≡ lastTaken (now (pool .entry)) k c i ⌝ }
 {
-    let own = classes::own_word(c);
-    let m = word_count(c);
+    let own = classes::class_own_word(c);
+    let m = map_words(c);
     let at = (i / 64) as usize;
     let odd = first_or_none(at, own) | map_marks::mark_word(i);
     words_from(pool, k, m, own, 0, at, odd)
-}
-
-pub fn last_taken_recorded(pool: &[u8], k: usize, c: u8, i: u16) -> bool
-    requires { ⌜ (3 ≤ c) × (k < length (now pool) / 8) ⌝ }
-    ensures { λ r. ⌜ r ≡ lastTaken (now (pool .entry)) k c i ⌝ }
-{
-    word_in_is(pool, k, map_marks::mark_word(i))
 }

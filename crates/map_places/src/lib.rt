@@ -15,7 +15,7 @@ fn chosen(c: u8, paged: u16, recorded: u16) -> u16
 }
 
 // The word that the map of page p begins with: at the start of the page, or in its record.
-fn map_word(w: u8, pages: u16, p: PageNumber, c: u8) -> usize
+pub fn map_word(w: u8, pages: u16, p: PageNumber, c: u8) -> usize
     ensures answer { λ r. ⌜ r ≡ mapWord w pages (p .0) c ⌝ }
     ensures bound { λ r. ⌜ r < 67108864 ⌝ }
 {

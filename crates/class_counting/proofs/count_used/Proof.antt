@@ -15,14 +15,8 @@ get-word-in-requires c κs = search needs
 get-word-in-requires-2 : tie.Need-get-word-in-requires-2
 get-word-in-requires-2 c κs = search needs
 
-raised-by-loan-requires : tie.Need-raised-by-loan-requires
-raised-by-loan-requires c κs = search needs
-
-put-word-in-requires : tie.Need-put-word-in-requires
-put-word-in-requires c κs = search needs
-
-put-word-in-requires-2 : tie.Need-put-word-in-requires-2
-put-word-in-requires-2 c κs = search needs
+put-used-requires : tie.Need-put-used-requires
+put-used-requires c κs = search needs
 
 same-length : tie.Need-same-length
 same-length c = search needs
@@ -31,15 +25,4 @@ returns : tie.Need-returns
 returns c = search (needs, used-counted)
 
 pub count-used-spec : {M : Type 1} → statement M
-count-used-spec =
-    tie.close
-    (tie.spec
-    place-requires
-    place-requires-2
-    get-word-in-requires
-    get-word-in-requires-2
-    raised-by-loan-requires
-    put-word-in-requires
-    put-word-in-requires-2
-    same-length
-    returns)
+count-used-spec = tie.close (tie.spec place-requires place-requires-2 get-word-in-requires get-word-in-requires-2 put-used-requires same-length returns)

@@ -10,7 +10,7 @@ give-chunk-requires : tie.Need-give-chunk-requires
 give-chunk-requires c κs =
     let b = c .before .before .before .before .before in
     let k = rw (c .before .before .f .given .1) at (b .pre .0) in
-    (k .0, k .1, b .pre .1)
+    (k .0, k .1, k .2, b .pre .1)
 
 enum-known-f-2 : tie.Need-enum-known-f-2
 enum-known-f-2 c = search needs

@@ -3,15 +3,15 @@ use borrow.Author.Needs.{needs}
 use Rattle.locate.proofs.chunk_start.Statement.{statement}
 use Rattle.locate.proofs.chunk_start.Tie as tie
 
-own-count-requires : tie.Need-own-count-requires
-own-count-requires c κs = search needs
+class-own-requires : tie.Need-class-own-requires
+class-own-requires c κs = search needs
 
 chunk-past-requires : tie.Need-chunk-past-requires
 chunk-past-requires c κs = search needs
 
 returns : tie.Need-returns
 unfolding startFound
-returns c = rw (c .before .own-count .ensures .0) at (c .chunk-past .ensures)
+returns c = rw (c .before .class-own .ensures .0) at (c .chunk-past .ensures)
 
 pub chunk-start-spec : {M : Type 1} → statement M
-chunk-start-spec = tie.close (tie.spec own-count-requires chunk-past-requires returns)
+chunk-start-spec = tie.close (tie.spec class-own-requires chunk-past-requires returns)
