@@ -1,5 +1,7 @@
 // Alloc on sound records, from the top: a size is nothing, a chunk of a class or a number of pages, a chunk is of the class list's
 // first page or of a new one. `w` is the number of words of a class record, `pages` the pages of the pool.
+#![tactic(auto)]
+
 ghost use Rattle.std.specs.Prelude.{◌≡◌, ◌+◌, ◌*◌, ◌%◌, ◌<◌, ◌≤◌};
 ghost use Rattle.answers.specs.Outcome.{granted, refused, of_alloc};
 ghost use Rattle.answers.specs.declared.Refusal.TheVariants.{NoRoom};

@@ -1,4 +1,6 @@
 // An answer as one word, for C and other languages.
+#![tactic(auto)]
+
 ghost use Rattle.std.specs.Prelude.{◌≡◌};
 ghost use Rattle.answers.specs.Outcome.{refused, of_format, of_alloc, of_free, of_batch};
 ghost use Rattle.answer_words.specs.Word.{word_of};

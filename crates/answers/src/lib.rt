@@ -1,4 +1,6 @@
 // What the public calls answer: an enum for each, over offsets and refusals.
+#![tactic(auto)]
+
 ghost use Rattle.std.specs.Prelude.{◌≡◌};
 ghost use Rattle.answers.specs.Outcome.{number_of};
 

@@ -30,6 +30,7 @@ sum_bump h k (suc n) i l e b = go (eq? i n) (λ u. sum_bump h k n i u (λ j v d.
     go (inr q) ih =
         let z : sum k n ≡ sum h n + 1 = ih (omega arith) in
         omega (arith, e n (omega arith) (λ d. q (omega arith)))
+sum_bump h k zero i l e b = elim l [ ]
 
 -- no term is more than k
 pub sum_bound : (h : ℕ → ℕ) (k : ℕ) → ((j : ℕ) → h j ≤ k) → (n : ℕ) → sum h n ≤ k * n

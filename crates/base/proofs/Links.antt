@@ -1,5 +1,5 @@
 -- The three changes of a linked list, each as the stores that make it: a page leaves, comes in front, takes another's place.
-use mathlib.Core.Path.{◌≡◌, refl, sym, ◌∙◌}
+use mathlib.Core.Path.{subst, ◌≡◌, refl, sym, ◌∙◌}
 use mathlib.Core.Logic.{◌⊎◌, inl, inr, ◌≢◌}
 use mathlib.Core.Bool.{true, cond}
 use mathlib.Core.List.{List, [], ◌∷◌}
@@ -30,11 +30,13 @@ before-is z hd r (x ∷ L) n m = go (eq? x r) m
         side (inl e) m ih = rw (eq-eqb y r e) d
         side (inr e) (inl c) ih = absurd (e (sym c))
         side (inr e) (inr c) ih = rw (ne_eqb y r e) (ih c)
+    inner b d [] k m = elim m [ ]
 
     go : (x ≡ r) ⊎ (x ≢ r) → Mem r (x ∷ L) → node z hd (cond (eqb x r) z (prev_from z x r L)) ≡ cond (eqb x r) hd (prev_from z x r L)
     go (inl e) m = rw (eq-eqb x r e, eq-eqb z z refl)
     go (inr e) (inl c) = absurd (e (sym c))
     go (inr e) (inr c) = rw (ne_eqb x r e, ne_eqb (prev_from z x r L) z (inner x (λ w. n (inl (sym w))) L (λ w. n (inr w)) c))
+before-is z hd r [] n m = elim m [ ]
 
 module _ (z hd : ℕ) (nx pv : ℕ → ℕ) (L : List ℕ) (once : NoDup L) (no-z : ¬ Mem z L) (no-hd : ¬ Mem hd L) (K : Linked z hd nx pv L) where
   next-page : (r : ℕ) → Mem r L → nx r ≡ next_in z r L
@@ -112,6 +114,7 @@ module _ (z hd : ℕ) (nx pv : ℕ → ℕ) (L : List ℕ) (once : NoDup L) (no-
               later : Mem q (x ∷ replace r t l) → (q ≡ t) ⊎ (Mem q (x ∷ l) × (q ≢ r))
               later (inl w) = inr (inl w, λ y. p (sym w ∙ y))
               later (inr k) = deeper (ih k)
+      on [] o q m = elim m [ ]
 
       before : node z hd (pv r) ≡ prev_from z hd r L
       before = rw (K.prevs r mr) (before-is z hd r L no-z mr)
@@ -138,8 +141,11 @@ module _ (z hd : ℕ) (nx pv : ℕ → ℕ) (L : List ℕ) (once : NoDup L) (no-
 
           listed : (q ≡ t) ⊎ (Mem q L × (q ≢ r)) → upd nx (node z hd (pv r)) t q ≡ next_in z q (hd ∷ replace r t L)
           listed (inl w) =
-              rw (w, before, upd_other nx (prev_from z hd r L) t t (not_t (prev_from z hd r L) (prev_on z hd r L mr)), ne_eqb hd t (λ x. d (sym x)))
-              (e ∙ next-page r mr ∙ sym (next-new z r t (λ w. no-z (rw (← w) mr)) L new mr))
+              subst
+              (λ (j : ℕ). upd nx (node z hd (pv r)) t j ≡ next_in z j (hd ∷ replace r t L))
+              (sym w)
+              (rw (before, upd_other nx (prev_from z hd r L) t t (not_t (prev_from z hd r L) (prev_on z hd r L mr)), ne_eqb hd t (λ x. d (sym x)))
+              (e ∙ next-page r mr ∙ sym (next-new z r t (λ w. no-z (rw (← w) mr)) L new mr)))
           listed (inr (k, n)) = kept (inr k) n
 
           go : Mem q (hd ∷ replace r t L) → upd nx (node z hd (pv r)) t q ≡ next_in z q (hd ∷ replace r t L)

@@ -19,6 +19,7 @@ module _ {A : Type 0} where
       go true e ih (inl p) = (inl p, rw p e)
       go true e ih (inr m) = (inr (ih m).0, (ih m).1)
       go false e ih m = (inr (ih m).0, (ih m).1)
+  keep-mem q x [] h = elim h [ ]
 
   pub mem-keep : (q : A → Bool) (x : A) (xs : List A) → Mem x xs → q x ≡ true → Mem x (keep q xs)
   mem-keep q x (y ∷ ys) (inl p) e = rw (← p, e) (inl refl)
@@ -27,6 +28,7 @@ module _ {A : Type 0} where
       go : (t : Bool) → Mem x (keep q ys) → Mem x (cond t (y ∷ keep q ys) (keep q ys))
       go true h = inr h
       go false h = h
+  mem-keep q x [] x3 e = elim x3 [ ]
 
   pub keep-once : (q : A → Bool) (xs : List A) → NoDup xs → NoDup (keep q xs)
   keep-once q [] h = tt
@@ -49,6 +51,7 @@ module _ {A : Type 0} where
   pub mem-has : (q : A → Bool) (xs : List A) (x : A) → Mem x xs → q x ≡ true → has q xs ≡ true
   mem-has q (y ∷ ys) x (inl p) e = rw (← p, e)
   mem-has q (y ∷ ys) x (inr m) e = rw (mem-has q ys x m e) (or-true (q y))
+  mem-has q [] x x4 e = elim x4 [ ]
 
   -- ---- two lists in a row
 
@@ -64,6 +67,7 @@ module _ {A : Type 0} where
   pub append_left : (x : A) (xs ys : List A) → Mem x xs → Mem x (xs ++ ys)
   append_left x (a ∷ xs) ys (inl p) = inl p
   append_left x (a ∷ xs) ys (inr m) = inr (append_left x xs ys m)
+  append_left x [] ys x'' = elim x'' [ ]
 
   pub append_right : (x : A) (xs ys : List A) → Mem x ys → Mem x (xs ++ ys)
   append_right x [] ys m = m

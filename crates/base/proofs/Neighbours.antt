@@ -203,6 +203,7 @@ prev-new z r t b (x ∷ xs) n m = go (eq? x r) m (prev-new z r t x xs (λ k. n (
     go (inl p) m ih = rw (eq-eqb x r p, eq-eqb t t refl)
     go (inr p) (inl q) ih = absurd (p (sym q))
     go (inr p) (inr k) ih = rw (ne_eqb x r p, ne_eqb x t (λ e. n (inl (sym e)))) (ih k)
+prev-new z r t b [] n m = elim m [ ]
 
 -- the page before one that is on the list
 pub prev_on : (z b r : ℕ) (xs : List ℕ) → Mem r xs → Mem (prev_from z b r xs) (b ∷ xs)
@@ -211,7 +212,10 @@ prev_on z b r (x ∷ xs) m = go (eq? x r) m (prev_on z x r xs)
     go : (x ≡ r) ⊎ (x ≢ r) → Mem r (x ∷ xs) → (Mem r xs → Mem (prev_from z x r xs) (x ∷ xs)) → Mem (cond (eqb x r) b (prev_from z x r xs)) (b ∷ x ∷ xs)
     go (inl e) m ih = rw (eq-eqb x r e) (inl refl)
     go (inr e) (inl p) ih = absurd (e (sym p))
-    go (inr e) (inr m) ih = rw (ne_eqb x r e) (inr (ih m))
+    go (inr e) (inr m) ih =
+        let q : cond (eqb x r) b (prev_from z x r xs) ≡ prev_from z x r xs = rw (ne_eqb x r e) refl in
+        subst (λ (w : ℕ). Mem w (b ∷ x ∷ xs)) (sym q) (inr (ih m))
+prev_on z b r [] m = elim m [ ]
 
 pub prev-next : (z b r : ℕ) (xs : List ℕ) → NoDup (b ∷ xs) → Mem r xs → next_in z (prev_from z b r xs) (b ∷ xs) ≡ r
 prev-next z b r (x ∷ xs) once m = go (eq? x r) m (prev-next z x r xs once.1)
@@ -221,7 +225,12 @@ prev-next z b r (x ∷ xs) once m = go (eq? x r) m (prev-next z x r xs once.1)
     go (inl e) m ih = rw (eq-eqb x r e, eq-eqb b b refl) e
     go (inr e) (inl p) ih = absurd (e (sym p))
     go (inr e) (inr m) ih =
-        rw (ne_eqb x r e, ne_eqb b (prev_from z x r xs) (λ q. once.0 (subst (λ (w : ℕ). Mem w (x ∷ xs)) (sym q) (prev_on z x r xs m)))) (ih m)
+        let q : cond (eqb x r) b (prev_from z x r xs) ≡ prev_from z x r xs = rw (ne_eqb x r e) refl in
+        subst
+        (λ (w : ℕ). next_in z w (b ∷ x ∷ xs) ≡ r)
+        (sym q)
+        (rw (ne_eqb b (prev_from z x r xs) (λ q. once.0 (subst (λ (w : ℕ). Mem w (x ∷ xs)) (sym q) (prev_on z x r xs m)))) (ih m))
+prev-next z b r [] once m = elim m [ ]
 
 module _ (z : ℕ) (L : List ℕ) (once : NoDup L) (no-z : ¬ Mem z L) where
   -- the page after y is r exactly when the page before r is y
@@ -237,7 +246,7 @@ module _ (z : ℕ) (L : List ℕ) (once : NoDup L) (no-z : ¬ Mem z L) where
           sym a ∙ rw (e, ne_eqb hd r ne)
 
       back : y ≡ prev_from z hd r L → next_in z y (hd ∷ L) ≡ r
-      back e = rw e (prev-next z hd r L (new, once) mr)
+      back e = subst (λ (w : ℕ). next_in z w (hd ∷ L) ≡ r) (sym e) (prev-next z hd r L (new, once) mr)
 
   -- the page before y is r exactly when the page after r is y
   pub adjacent_back : (y r : ℕ) → Mem y L → Mem r L → eqb (prev_from z z y L) r ≡ eqb y (next_in z r L)
@@ -289,3 +298,4 @@ prev-pushed z t (x ∷ L) new y my = rw (ne_eqb t y (λ e. not_in (x ∷ L) my n
     go : (x ≡ y) ⊎ (x ≢ y) → cond (eqb x y) t (prev_from z x y L) ≡ cond (eqb y x) t (cond (eqb x y) z (prev_from z x y L))
     go (inl e) = rw (eq-eqb x y e, eq-eqb y x (sym e))
     go (inr e) = rw (ne_eqb x y e, ne_eqb y x (λ q. e (sym q)))
+prev-pushed z t [] new y my = elim my [ ]

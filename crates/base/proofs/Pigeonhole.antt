@@ -35,6 +35,7 @@ keep-length n (p ∷ L) once m = go (eq? p n) m (keep-length n L once.1)
     go (inl e) m ih = rw (eq-eqb p n e, all L (λ k. once.0 (mem_cast L e k)))
     go (inr d) (inl e) ih = absurd (d (sym e))
     go (inr d) (inr k) ih = rw (ne_eqb p n d) (ap suc (ih k))
+keep-length n [] once m = elim m [ ]
 
 module _ (t : ℕ → Bool) where
   -- each number of the list is below n and passes the test

@@ -1,4 +1,6 @@
 // Many requests under one validation, for class records of w words: the records are validated once, then all requests are served.
+#![tactic(auto)]
+
 ghost use Rattle.std.specs.Prelude.{◌≡◌, ◌≤◌};
 ghost use Rattle.answers.specs.Outcome.{of_batch};
 ghost use Rattle.batch.specs.Batch.{batch_outcome, batch_pool, batch_answers};

@@ -1,4 +1,6 @@
 // Tests without branches, in the words of the rules: each is a call, so that a function over them is one composition.
+#![tactic(auto)]
+
 ghost use Rattle.std.specs.Prelude.{◌≡◌, true, false, [], ◌∷◌, ◌-◌, ◌≤◌};
 ghost use Rattle.base.specs.Count.{bit};
 ghost use Rattle.base.specs.Tests.{pick, all_of};

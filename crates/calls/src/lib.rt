@@ -1,4 +1,6 @@
 // Alloc and free on bytes, for class records of w words: the records are validated, then the call is made.
+#![tactic(auto)]
+
 ghost use Rattle.std.specs.Prelude.{◌≡◌, ◌%◌, ◌≤◌};
 ghost use Rattle.records.specs.Layout.{page_count};
 ghost use Rattle.answers.specs.Outcome.{of_alloc, of_free};

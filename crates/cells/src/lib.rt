@@ -1,4 +1,6 @@
 // Bytes and words of a slice by their number. Reads and writes are total: outside the slice a read gives 0 and a write does nothing.
+#![tactic(auto)]
+
 ghost use Rattle.std.specs.Prelude.{◌≡◌, ◌/◌, ◌<◌, get_or, set, length};
 ghost use Rattle.words.specs.Word.{word, set_word};
 

@@ -1,4 +1,6 @@
 // Whether a mended copy of a damaged pool is accepted, whoever mended it (SPEC 14). `w` is the number of words of a class record.
+#![tactic(auto)]
+
 ghost use Rattle.std.specs.Prelude.{◌≡◌, true, ℕ, ◌+◌, ◌-◌, ◌≤◌, ◌<◌, eqb, length, get_or};
 ghost use Rattle.base.specs.Tests.{pick, all_below};
 ghost use Rattle.records.specs.Layout.{no_page, pages_from};

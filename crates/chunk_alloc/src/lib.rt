@@ -1,5 +1,7 @@
 // Chunks handed out, of a page on a class list or of a new page.
 // `w` is the number of words of a class record, `pages` the pages of the pool.
+#![tactic(auto)]
+
 ghost use Rattle.std.specs.Prelude.{◌≡◌, ◌+◌, ◌*◌, ◌/◌, ◌%◌, ◌≤◌, ◌<◌, true, length};
 ghost use Rattle.records.specs.Layout.{tally_place};
 ghost use Rattle.records.specs.Page.{links_at};

@@ -1,6 +1,8 @@
 // Chunks that come back, and pages of which the last one does. Where the map lies makes no branch: of frees in any order none would be
 // foretold well.
 // `w` is the number of words of a class record, `pages` the pages of the pool.
+#![tactic(auto)]
+
 ghost use Rattle.std.specs.Prelude.{◌≡◌, ◌+◌, ◌*◌, ◌/◌, ◌%◌, ◌≤◌, ◌<◌, false, length};
 ghost use Rattle.records.specs.Layout.{counts_place, links_place};
 ghost use Rattle.model.specs.Classes.{chunks};

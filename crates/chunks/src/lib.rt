@@ -1,4 +1,6 @@
 // Class pages: the number of their list, and what stands in their record.
+#![tactic(auto)]
+
 ghost use Rattle.std.specs.Prelude.{◌≡◌};
 ghost use Rattle.chunks.specs.Mirror.{list_of, class_links};
 

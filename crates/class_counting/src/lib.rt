@@ -1,5 +1,7 @@
 // The class records of a pool: chunks counted as they are handed out, come back, or are refused.
 // `w` is the number of words of a class record.
+#![tactic(auto)]
+
 ghost use Rattle.std.specs.Prelude.{◌≡◌, ◌+◌, ◌-◌, ◌/◌, ◌<◌, length, nat_lt};
 ghost use Rattle.words.specs.Word.{word, set_word};
 ghost use Rattle.records.specs.Layout.{counts_place, tally_place};

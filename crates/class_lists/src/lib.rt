@@ -1,5 +1,7 @@
 // The pages on the class lists: those with a free chunk.
 // `w` is the number of words of a class record.
+#![tactic(auto)]
+
 ghost use Rattle.std.specs.Prelude.{◌≡◌, ◌/◌, ◌<◌, false, not, eqb, length};
 ghost use Rattle.base.specs.Tests.{pick};
 ghost use Rattle.records.specs.Layout.{no_page, counts_place, links_place};

@@ -1,4 +1,6 @@
 // The peak of a class, raised to what the class has in use. `w` is the number of words of a class record: edition 1 has no peaks.
+#![tactic(auto)]
+
 ghost use Rattle.std.specs.Prelude.{◌≡◌};
 ghost use Rattle.class_peaks.specs.Mirror.{lifted_to, peak_lifted, peak_raised};
 

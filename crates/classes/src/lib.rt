@@ -1,4 +1,6 @@
 // The nine classes: how many chunks their pages are cut into, and how large their maps are.
+#![tactic(auto)]
+
 ghost use Rattle.std.specs.Prelude.{◌≡◌, ◌/◌, ◌≤◌};
 ghost use Rattle.model.specs.Classes.{chunks, own, counted};
 ghost use Rattle.map_count.specs.Mirror.{map_bits};

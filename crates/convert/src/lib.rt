@@ -1,4 +1,6 @@
 // From a sound pool of edition 1 into a second slice as edition 2 (SPEC 13).
+#![tactic(auto)]
+
 ghost use Rattle.std.specs.Prelude.{◌≡◌, ◌+◌, ◌*◌, ◌≤◌, length};
 ghost use Rattle.records.specs.Layout.{pages_from};
 ghost use Rattle.answers.specs.Outcome.{of_format};

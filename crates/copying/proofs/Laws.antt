@@ -38,6 +38,7 @@ module _ (to from : ℕ) (s : List ℕ) where
       go : (i ≡ n) ⊎ (i ≢ n) → (i < n → get_or (lay to from s n t) (to + i) 0 ≡ get_or s (from + i) 0) → get_or (set (lay to from s n t) (to + n) (get_or s (from + n) 0)) (to + i) 0 ≡ get_or s (from + i) 0
       go (inl e) ih = rw e (get_or-set_same (lay to from s n t) (to + n) (get_or s (from + n) 0) 0 (rw (length-lay n t) (omega arith)))
       go (inr d) ih = get_or-set_other (lay to from s n t) (to + n) (to + i) _ 0 (λ e. d (omega arith)) ∙ ih (omega arith)
+  lay-inside zero t i l room = elim l [ ]
 
   pub lay-bytes : (n : ℕ) (t : List ℕ) → to + n ≤ length t → Bytes s → Bytes t → Bytes (lay to from s n t)
   lay-bytes n t room B C i = go (in? to n i)

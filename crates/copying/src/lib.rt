@@ -1,4 +1,6 @@
 // Bytes of one slice laid over another.
+#![tactic(auto)]
+
 ghost use Rattle.std.specs.Prelude.{◌≡◌, ◌+◌, ◌≤◌, length};
 ghost use Rattle.copying.specs.Lay.{lay};
 

@@ -1,5 +1,7 @@
 // The calls for C and other languages: a pool, a directory and a record are each a pointer and a length, a gauge is a struct by value,
 // an answer one word.
+#![tactic(auto)]
+
 ghost use Rattle.std.specs.Prelude.{◌≡◌, length};
 ghost use Rattle.answers.specs.Outcome.{number_of};
 ghost use Rattle.model.specs.Calls.{Alloc, Free};

@@ -1,4 +1,6 @@
 // Format: makes a pool of a slice. `w` is the number of words of a class record.
+#![tactic(auto)]
+
 ghost use Rattle.std.specs.Prelude.{◌≡◌, ◌≤◌, ◌<◌, length};
 ghost use Rattle.answers.specs.Outcome.{of_format};
 ghost use Rattle.image.specs.Image.{header_of};

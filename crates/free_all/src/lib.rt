@@ -1,5 +1,7 @@
 // A whole list of offsets freed or none, for class records of w words: validated once, tried on the pool itself, taken back, then freed.
 // The trial clears marks in place and takes one bit of each run's record, so that neither a copy of the pool nor any other memory is needed.
+#![tactic(auto)]
+
 ghost use Rattle.std.specs.Prelude.{◌≡◌, ◌≤◌, ◌<◌, length};
 ghost use Rattle.answers.specs.Outcome.{number_of, granted};
 ghost use Rattle.sound_pools.specs.Sound.{Validated};

@@ -1,5 +1,7 @@
 // A list of offsets tried on the pool itself, one after another, and taken back.
 // `w` is the number of words of a class record, `pages` the pages of the pool.
+#![tactic(auto)]
+
 ghost use Rattle.std.specs.Prelude.{◌≡◌, ◌≤◌, length, take};
 ghost use Rattle.classes.specs.Mirror.{Whole};
 ghost use Rattle.free_all_list.specs.Mirror.{list_tried, list_marked, list_back, granted_of};

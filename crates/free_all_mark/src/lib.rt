@@ -1,5 +1,7 @@
 // The mark of one offset's block, or its run's flag, written: live or tentatively freed.
 // `w` is the number of words of a class record, `pages` the pages of the pool.
+#![tactic(auto)]
+
 ghost use Rattle.std.specs.Prelude.{◌≡◌, ◌≤◌};
 ghost use Rattle.maps.specs.Bitmap.{with_mark};
 ghost use Rattle.model.specs.Classes.{chunk};

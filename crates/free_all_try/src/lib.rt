@@ -1,6 +1,8 @@
 // What a free of one offset answers after frees that only left marks: chunks with their marks cleared, flagged runs.
 // `locate` knows neither marks nor flags, nor that an emptied page would be free.
 // `w` is the number of words of a class record, `pages` the pages of the pool.
+#![tactic(auto)]
+
 ghost use Rattle.std.specs.Prelude.{◌≡◌};
 ghost use Rattle.base.specs.Tests.{all_below};
 ghost use Rattle.maps.specs.Bitmap.{mark};

@@ -1,5 +1,7 @@
 // Free on sound records: what begins at the offset is given back, and only the records that change are touched.
 // `w` is the number of words of a class record, `pages` the pages of the pool.
+#![tactic(auto)]
+
 ghost use Rattle.std.specs.Prelude.{◌≡◌, ◌*◌, ◌%◌, ◌≤◌, ◌<◌};
 ghost use Rattle.answers.specs.Outcome.{granted, of_free};
 ghost use Rattle.model.specs.Classes.{chunk, chunks};

@@ -1,4 +1,6 @@
 // The load gauge (SPEC 15): a smoothed number of pages in use, and the level above which the panel trips.
+#![tactic(auto)]
+
 ghost use Rattle.std.specs.Prelude.{◌≡◌, ◌<◌};
 ghost use Rattle.gauge.specs.Gauge.{in_range, usable, takes, fresh, begun, halves, advanced, blank, of_gauge, gauge_in, of_trip, start_outcome, started, sample_outcome, sampled, trip_outcome};
 

@@ -1,4 +1,6 @@
 // The answers of the calls on a gauge, for C and other languages: a word, and the gauge beside it.
+#![tactic(auto)]
+
 ghost use Rattle.std.specs.Prelude.{◌≡◌};
 ghost use Rattle.answers.specs.Outcome.{refused};
 ghost use Rattle.answer_words.specs.Word.{word_of};

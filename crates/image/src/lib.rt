@@ -1,1 +1,3 @@
 // The records of a pool as functions of class and page: definitions in specs/, laws in proofs/. No code.
+#![tactic(auto)]
+

@@ -1,4 +1,6 @@
 // The record keeper's public calls: records by key, in blocks of a pool (SPEC 18). The pool's first byte tells its edition, as in `pool`.
+#![tactic(auto)]
+
 ghost use Rattle.std.specs.Prelude.{◌≡◌, ◌+◌, ◌*◌};
 ghost use Rattle.answers.specs.Outcome.{of_alloc, of_free};
 ghost use Rattle.demands.specs.Editions.{width_of};

@@ -1,4 +1,6 @@
 // Put, find and remove for class records of w words (SPEC 18): pool and directory are checked, then the request is served.
+#![tactic(auto)]
+
 ghost use Rattle.std.specs.Prelude.{◌≡◌, ◌≤◌, ◌<◌, length, set};
 ghost use Rattle.answers.specs.Outcome.{of_alloc, of_free, granted};
 ghost use Rattle.model.specs.Calls.{Free};

@@ -1,5 +1,7 @@
 // A record stored in place i of a directory, on a sound pool and a sound directory: the new block, the copy, the word, the old block.
 // `w` is the number of words of a class record, `pages` the pages of the pool.
+#![tactic(auto)]
+
 ghost use Rattle.std.specs.Prelude.{◌≡◌, ◌+◌, ◌≤◌, ◌<◌, length, set};
 ghost use Rattle.records.specs.Layout.{pages_from};
 ghost use Rattle.answers.specs.Outcome.{granted, of_alloc};

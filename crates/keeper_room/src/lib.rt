@@ -1,5 +1,7 @@
 // The room of the live block at an offset of a validated pool, and the test of a directory. Nothing changes.
 // `w` is the number of words of a class record, `pages` the pages of the pool.
+#![tactic(auto)]
+
 ghost use Rattle.std.specs.Prelude.{◌≡◌, ◌%◌, ◌≤◌, length};
 ghost use Rattle.base.specs.Tests.{all_below};
 ghost use Rattle.map_occupancy.specs.Mirror.{bit_for};

@@ -1,4 +1,6 @@
 // The directory's words: key 16 bits, length 16 bits, offset 32 bits; length 0 is an empty place.
+#![tactic(auto)]
+
 ghost use Rattle.std.specs.Prelude.{◌≡◌, ◌&&◌, not, ◌≤◌, eqb, length};
 ghost use Rattle.base.specs.Search.{least};
 ghost use Rattle.base.specs.Tests.{all_below};

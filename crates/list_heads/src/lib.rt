@@ -1,5 +1,7 @@
 // The first pages of the ten lists: list 0 is the list of free runs, list 1 + c the list of class c's pages with a free chunk.
 // A list's first page stands in the header or in the class record.
+#![tactic(auto)]
+
 ghost use Rattle.std.specs.Prelude.{◌≡◌};
 ghost use Rattle.records.specs.Header.{header_at};
 ghost use Rattle.words.specs.Word.{word, set_word};

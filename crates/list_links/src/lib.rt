@@ -1,4 +1,6 @@
 // The next and the previous page of a page on a list. They stand in the page records; before a list's first page stands the list itself.
+#![tactic(auto)]
+
 ghost use Rattle.std.specs.Prelude.{◌≡◌};
 ghost use Rattle.lists.specs.Mirror.{between, linked_next, linked_prev, with_next, with_prev};
 

@@ -1,4 +1,6 @@
 // The operations on the ten lists: a page leaves its list, comes in front of it, or takes the place of another.
+#![tactic(auto)]
+
 ghost use Rattle.std.specs.Prelude.{◌≡◌};
 ghost use Rattle.lists.specs.Mirror.{unlinked, pushed_before, pushed, replaced};
 

@@ -1,5 +1,7 @@
 // What begins at an offset of a sound pool: a chunk, a run, or nothing that can be given back.
 // `w` is the number of words of a class record, `pages` the pages of the pool.
+#![tactic(auto)]
+
 ghost use Rattle.std.specs.Prelude.{◌≡◌, ◌/◌, ◌≤◌, ◌<◌, length};
 ghost use Rattle.records.specs.Layout.{links_place};
 ghost use Rattle.classes.specs.Mirror.{Whole};

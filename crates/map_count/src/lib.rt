@@ -1,4 +1,6 @@
 // How many marks of a map are set, by counting the ones of its words.
+#![tactic(auto)]
+
 ghost use Rattle.std.specs.Prelude.{◌≡◌, ◌+◌, ◌*◌, ◌/◌, ◌≤◌, ◌<◌, length};
 ghost use Rattle.base.specs.Count.{count};
 ghost use Rattle.maps.specs.Bitmap.{mark};

@@ -1,5 +1,7 @@
 // The marks of a chunk map, one at a time. A map is named by the place `base` of its first byte in the pool, wherever it lies: in the
 // page record or at the start of the page.
+#![tactic(auto)]
+
 ghost use Rattle.std.specs.Prelude.{◌≡◌, ◌+◌, ◌*◌, ◌/◌, ◌%◌, ◌^◌, ◌<◌, true, false, length};
 ghost use Rattle.maps.specs.Bitmap.{bit_of, mark, with_bit, with_mark};
 ghost use Rattle.maps.specs.Mirror.{word_bit, with_word_bit};

@@ -1,4 +1,6 @@
 // The chunk map of a new page.
+#![tactic(auto)]
+
 ghost use Rattle.std.specs.Prelude.{◌≡◌, ◌≤◌, ltb, length};
 ghost use Rattle.maps.specs.Bitmap.{bits_of};
 ghost use Rattle.maps.specs.Mirror.{new_map, with_new_map};

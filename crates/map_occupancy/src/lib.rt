@@ -1,5 +1,7 @@
 // Whether a class page is full, or one chunk from full or empty, told by the words of its map. No mark is counted: a map in the page record
 // is one word, and most others differ in the first.
+#![tactic(auto)]
+
 ghost use Rattle.std.specs.Prelude.{◌≡◌, ◌+◌, ◌/◌, ◌≤◌, ◌<◌, eqb, length};
 ghost use Rattle.base.specs.Tests.{pick};
 ghost use Rattle.words.specs.Word.{word};

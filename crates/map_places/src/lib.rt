@@ -1,5 +1,7 @@
 // The chunk maps of class pages: where they lie.
 // `w` is the number of words of a class record, `pages` the pages of the pool.
+#![tactic(auto)]
+
 ghost use Rattle.std.specs.Prelude.{◌≡◌, ◌≤◌, ◌<◌};
 ghost use Rattle.rules.specs.Bytes.{map_base};
 ghost use Rattle.classes.specs.Mirror.{map_word};

@@ -1,4 +1,6 @@
 // The lowest clear mark of a chunk map.
+#![tactic(auto)]
+
 ghost use Rattle.std.specs.Prelude.{◌≡◌, ◌+◌, ◌*◌, ◌/◌, ◌≤◌, ◌<◌, eqb, length};
 ghost use Rattle.base.specs.Tests.{pick};
 ghost use Rattle.maps.specs.Mirror.{lowest_clear};

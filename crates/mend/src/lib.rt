@@ -1,5 +1,7 @@
 // Mends a damaged pool into a second slice (SPEC 14): records are written anew from what kinds, run lengths and maps tell.
 // `w` is the number of words of a class record.
+#![tactic(auto)]
+
 ghost use Rattle.std.specs.Prelude.{◌≡◌, true, ◌≤◌, ◌<◌, length};
 ghost use Rattle.answers.specs.Outcome.{of_format};
 ghost use Rattle.image.specs.Image.{header_of};

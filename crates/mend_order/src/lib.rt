@@ -1,5 +1,7 @@
 // The neighbours of a page on its list, where lists stand in page order, found by search on a pool whose pages are well shaped.
 // Lists are numbered as in `lists`. A search ends at its first hit, so that those of a list take as many steps as there are pages.
+#![tactic(auto)]
+
 ghost use Rattle.std.specs.Prelude.{◌≡◌, true, ◌+◌, ◌-◌, ◌≤◌, ◌<◌};
 ghost use Rattle.base.specs.Tests.{pick};
 ghost use Rattle.records.specs.Layout.{no_page};

@@ -1,4 +1,6 @@
 // The plain engine's values.
+#![tactic(auto)]
+
 
 // An entry of the table of free runs: the first page and how many pages; one of no pages is an empty place.
 #[derive(Drop)]

@@ -1,5 +1,7 @@
 // Alloc on a sound plain state, as SPEC 4.4 to 4.6 tell it. `bytes` has a byte for each chunk, and e is the first entry of the table
 // of free runs with as many pages as are asked for, an empty place where there is none.
+#![tactic(auto)]
+
 ghost use Rattle.std.specs.Prelude.{◌≡◌, ◌≤◌, ◌<◌};
 ghost use Rattle.model.specs.Classes.{class_of, pages_for, own, lowest};
 ghost use Rattle.plain.specs.Plain.{mark_of};

@@ -1,4 +1,6 @@
 // The list of pages with a free chunk, by value, and the bytes of the chunks, lent.
+#![tactic(auto)]
+
 ghost use Rattle.std.specs.Prelude.{◌≡◌, ◌<◌, ◌≤◌, eqb};
 ghost use Rattle.base.specs.Tests.{pick};
 ghost use Rattle.model.specs.Classes.{own, chunks, lowest, has_clear};

@@ -1,4 +1,6 @@
 // What a plain state has in use, counted from its pages and the bytes of their chunks.
+#![tactic(auto)]
+
 ghost use Rattle.std.specs.Prelude.{◌≡◌, ◌*◌, ◌≤◌, ◌<◌, get_or};
 ghost use Rattle.base.specs.Count.{count};
 ghost use Rattle.model.specs.Classes.{own, chunks};

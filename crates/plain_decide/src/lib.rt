@@ -1,6 +1,8 @@
 // The plain engine on what is kept by value: what a call answers, and what the lent table of free runs is still to suffer.
 // `ok` tells whether that table keeps its rules. Each call first asks for a whole table of chunks (refusal 16), then for a sound
 // state (refusal 3).
+#![tactic(auto)]
+
 ghost use Rattle.std.specs.Prelude.{◌≡◌, true, false};
 ghost use Rattle.base.specs.Tests.{pick};
 ghost use Rattle.answers.specs.Outcome.{number_of};

@@ -2,6 +2,8 @@
 // Its state is tables by value (`Kept`), a lent table of free runs in list order, whose first 12 entries count, and a lent table of
 // chunks, 512 bytes for each page: byte i of entry p is 0 where chunk i of page p is free. Each call first asks for whole tables
 // (refusal 16), then for a sound state (refusal 3). The table of free runs is tried, scanned and changed where it stands.
+#![tactic(auto)]
+
 ghost use Rattle.std.specs.Prelude.{◌≡◌, List, take};
 ghost use Rattle.model.specs.Calls.{Alloc, Free};
 ghost use Rattle.plain.specs.Fresh.{fresh_runs};

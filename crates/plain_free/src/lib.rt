@@ -1,4 +1,6 @@
 // Free on a sound plain state, as SPEC 4.7 to 4.9 tell it. `bytes` has a byte for each chunk.
+#![tactic(auto)]
+
 ghost use Rattle.std.specs.Prelude.{◌≡◌, ◌/◌, ◌≤◌, ◌<◌, get_or};
 ghost use Rattle.model.specs.Classes.{chunk, chunks, starts_chunk, has_taken};
 ghost use Rattle.plain.specs.Plain.{free_entry, mark_of};

@@ -1,4 +1,6 @@
 // The plain engine for a host that has the table of free runs as its own array: it is lent for the call.
+#![tactic(auto)]
+
 ghost use Rattle.std.specs.Prelude.{◌≡◌};
 ghost use Rattle.model.specs.Calls.{Alloc, Free};
 ghost use Rattle.plain_decide.specs.Calls.{Serves, Formats};

@@ -1,4 +1,6 @@
 // Rules 2 and 5 on a plain state: each page is what its kind says. Read kind_ok, the last, first.
+#![tactic(auto)]
+
 ghost use Rattle.std.specs.Prelude.{◌≡◌, false, ◌+◌, ◌≤◌, ◌<◌, ltb};
 ghost use Rattle.base.specs.Tests.{pick, all_below};
 ghost use Rattle.model.specs.Classes.{own, chunks};

@@ -1,5 +1,7 @@
 // The table of free runs, lent, and read and changed where it stands.
 // It has at least 12 entries, of which the first 12 are the table; what stands behind them stays.
+#![tactic(auto)]
+
 ghost use Rattle.std.specs.Prelude.{◌≡◌, ◌++◌, ◌<◌, ◌≤◌, length, get_or, set, take, drop};
 ghost use Rattle.plain.specs.Arrays.{place_of, pushed};
 ghost use Rattle.plain.specs.Table.{vacant, is_vacant, first_fit, len_of, cleared};

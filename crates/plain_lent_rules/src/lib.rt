@@ -1,4 +1,6 @@
 // Rules 2 and 3 on the lent table of free runs, which is read where it stands.
+#![tactic(auto)]
+
 ghost use Rattle.std.specs.Prelude.{◌≡◌, not, false, ◌+◌, ◌<◌, ◌≤◌, eqb, length, take};
 ghost use Rattle.base.specs.Count.{bit};
 ghost use Rattle.base.specs.Tests.{pick};

@@ -1,4 +1,6 @@
 // Rules 2 to 4 on a plain state: an entry of the table of free runs, and the list of pages with a free chunk.
+#![tactic(auto)]
+
 ghost use Rattle.std.specs.Prelude.{◌≡◌, ◌<◌};
 ghost use Rattle.model.specs.Classes.{has_clear};
 ghost use Rattle.plain.specs.Plain.{mark_of};

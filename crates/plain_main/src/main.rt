@@ -1,4 +1,6 @@
 // Serves the script on standard input with the plain engine, and prints its printout.
+#![tactic(auto)]
+
 use libc::{STDIN_FILENO, STDOUT_FILENO};
 
 fn main() {

@@ -1,4 +1,6 @@
 // Pages taken and released, on what is kept by value.
+#![tactic(auto)]
+
 ghost use Rattle.std.specs.Prelude.{◌≡◌};
 ghost use Rattle.plain.specs.Arrays.{remade};
 ghost use Rattle.plain.specs.Pages.{taken_at, freed_at, offset_of};

@@ -1,4 +1,6 @@
 // The first page of a class with a free chunk, found by scanning the list.
+#![tactic(auto)]
+
 ghost use Rattle.std.specs.Prelude.{◌≡◌, get_or};
 ghost use Rattle.plain.specs.Arrays.{place_of};
 ghost use Rattle.plain.specs.Mirror.{class_in, ready_in, kept_ready};

@@ -1,4 +1,6 @@
 // A script served by the plain engine, for a host that has the table of free runs and that of the chunks, and lends them at each call. What it prints is what the packed pool prints (SPEC 8): both are told by `printout`.
+#![tactic(auto)]
+
 ghost use Rattle.std.specs.Prelude.{◌≡◌, true, ◌+◌, ◌*◌, ◌≤◌, length};
 ghost use Rattle.std.proofs.Math.Option.{some};
 ghost use Rattle.answers.specs.declared.Refusal.TheVariants.{Unreadable};

@@ -1,4 +1,6 @@
 // Chunks handed out and back: what happens to the tables that are kept by value.
+#![tactic(auto)]
+
 ghost use Rattle.std.specs.Prelude.{◌≡◌, ◌<◌, set};
 ghost use Rattle.base.specs.Tests.{pick};
 ghost use Rattle.model.specs.Calls.{raise};

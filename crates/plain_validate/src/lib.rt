@@ -1,4 +1,6 @@
 // Rules 2 to 6 on what is kept by value; those of the table of free runs are tried where it stands. Read is_sound, the last, first.
+#![tactic(auto)]
+
 ghost use Rattle.std.specs.Prelude.{◌≡◌, ◌<◌, get_or};
 ghost use Rattle.base.specs.Tests.{all_below};
 ghost use Rattle.plain.specs.Plain.{no_counts};

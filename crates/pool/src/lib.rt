@@ -1,5 +1,7 @@
 // The public calls. The first byte of a pool tells its edition, and with it the number of words of a class record (SPEC 2):
 // each call is made for that width, a constant at each place, so that edition 1 does not pay for the other.
+#![tactic(auto)]
+
 ghost use Rattle.std.specs.Prelude.{◌≡◌, eqb, length, get_or};
 ghost use Rattle.answers.specs.Outcome.{of_format, of_alloc, of_free, of_batch};
 ghost use Rattle.model.specs.Calls.{Alloc, Free};

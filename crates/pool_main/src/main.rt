@@ -1,4 +1,6 @@
 // Serves the script on standard input with a pool of 12 pages, and prints its printout.
+#![tactic(auto)]
+
 use libc::{STDIN_FILENO, STDOUT_FILENO};
 
 fn main() {

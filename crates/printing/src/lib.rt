@@ -1,4 +1,6 @@
 // Text written into a slice: words, numbers and lines. What would lie past the slice's end is dropped.
+#![tactic(auto)]
+
 ghost use Rattle.std.specs.Prelude.{◌≡◌, ◌+◌, ◌/◌, ◌%◌, ◌≤◌, ◌<◌, length};
 ghost use Rattle.printing.specs.Text.{ten_to, many_places, places, decimal, phrase, line, pair_line, written, Prints};
 

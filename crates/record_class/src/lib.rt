@@ -1,5 +1,7 @@
 // Class records: two words each, packed by multiplication and unpacked by division and remainder, and a third for the peak.
 // `w` is the number of words of a class record: 2 in edition 1, 3 in edition 2.
+#![tactic(auto)]
+
 ghost use Rattle.std.specs.Prelude.{◌≡◌, ◌/◌, ◌<◌, length};
 ghost use Rattle.records.specs.Layout.{counts_place};
 ghost use Rattle.records.specs.Class.{pack_counts, pack_tally, unpack_class, class_at, with_class, pack_peak, peak_at, peak_spare, with_peak};

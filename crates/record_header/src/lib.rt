@@ -1,4 +1,6 @@
 // The header: word 0 of a pool, packed by multiplication and unpacked by division and remainder.
+#![tactic(auto)]
+
 ghost use Rattle.std.specs.Prelude.{◌≡◌};
 ghost use Rattle.records.specs.Header.{pack_header, unpack_header, header_at, with_header};
 

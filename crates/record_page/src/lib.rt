@@ -1,5 +1,7 @@
 // Page records but for their chunk maps: one word each, packed by multiplication and unpacked by division and remainder.
 // `w` is the number of words of a class record: 2 in edition 1.
+#![tactic(auto)]
+
 ghost use Rattle.std.specs.Prelude.{◌≡◌, ◌/◌, ◌<◌, length};
 ghost use Rattle.records.specs.Layout.{links_place};
 ghost use Rattle.records.specs.Page.{pack_links, unpack_links, links_at, with_links};

@@ -1,4 +1,6 @@
 // The records of a pool by value: header, class records and page records, and where they stand.
+#![tactic(auto)]
+
 ghost use Rattle.std.specs.Prelude.{◌≡◌, ◌+◌, ◌*◌};
 ghost use Rattle.records.specs.Mirror.{free_to, first_run_to, used_to, total_to};
 ghost use Rattle.records.specs.Class.{empty_class};

@@ -1,5 +1,7 @@
 // The report of a pool's image of edition 1, up to 12 pages, written into a slice. Every function writes from place n on and answers the
 // place after its lines. `pages` are the image's.
+#![tactic(auto)]
+
 ghost use Rattle.std.specs.Prelude.{◌≡◌, ◌+◌, ◌*◌, ◌/◌, ◌≤◌, ◌<◌, length};
 ghost use Rattle.model.specs.Classes.{chunk, chunks, counted};
 ghost use Rattle.model.specs.View.{shown};

@@ -1,4 +1,6 @@
 // The lines of a report, printed into a slice from place n on; each function answers the place after its line.
+#![tactic(auto)]
+
 ghost use Rattle.std.specs.Prelude.{◌++◌, ◌≤◌};
 ghost use Rattle.model.specs.Classes.{chunk};
 ghost use Rattle.model.specs.Live.{small, large};

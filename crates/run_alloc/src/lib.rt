@@ -1,4 +1,6 @@
 // Pages taken from the front of a free run.
+#![tactic(auto)]
+
 ghost use Rattle.std.specs.Prelude.{◌≡◌};
 ghost use Rattle.run_extents.specs.Mirror.{fewer_free, rest_kept, front_cut, front_off, front_page, run_taken};
 

@@ -1,5 +1,7 @@
 // The free runs of a pool: first fit, and what records of runs are made of.
 // Sums of page numbers and counts wrap, so that nothing is required; within a pool none does.
+#![tactic(auto)]
+
 ghost use Rattle.std.specs.Prelude.{◌≡◌, ◌+◌, ◌-◌};
 ghost use Rattle.run_extents.specs.Mirror.{wrap, plain, fit_in};
 

@@ -1,4 +1,6 @@
 // Pages released: they join the free runs beside them, and the whole becomes the head of the list.
+#![tactic(auto)]
+
 ghost use Rattle.std.specs.Prelude.{◌≡◌, ◌+◌};
 ghost use Rattle.run_extents.specs.Mirror.{wrap};
 ghost use Rattle.run_neighbours.specs.Mirror.{more_free, run_unlinked, run_dropped, one_of, blanked, run_pushed, joined_run, pages_released};

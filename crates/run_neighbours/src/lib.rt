@@ -1,4 +1,6 @@
 // The free runs beside a page: how long the one is that starts there, and the one that ends right before it.
+#![tactic(auto)]
+
 ghost use Rattle.std.specs.Prelude.{◌≡◌, ◌-◌};
 ghost use Rattle.run_neighbours.specs.Mirror.{len_from, run_from, right_len, len_to, run_to, left_len};
 

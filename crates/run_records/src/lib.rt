@@ -1,4 +1,6 @@
 // The page records of a run.
+#![tactic(auto)]
+
 ghost use Rattle.std.specs.Prelude.{◌≡◌};
 ghost use Rattle.run_extents.specs.Mirror.{filled, last_backed, backed};
 

@@ -1,4 +1,6 @@
 // A script served on a fresh pool of 12 pages, and its whole printout written into a slice.
+#![tactic(auto)]
+
 ghost use Rattle.std.specs.Prelude.{◌≡◌, ◌+◌, ◌*◌, ◌≤◌, length};
 ghost use Rattle.std.proofs.Math.Option.{some};
 ghost use Rattle.model.specs.Calls.{Alloc, Free};

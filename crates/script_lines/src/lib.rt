@@ -1,4 +1,6 @@
 // The lines of a script: where a line ends, and what it asks for.
+#![tactic(auto)]
+
 ghost use Rattle.std.specs.Prelude.{◌≡◌, ◌∷◌, ◌+◌, ◌-◌, ◌≤◌, ◌<◌, eqb, length, get_or, take, drop};
 ghost use Rattle.model.specs.Calls.{Alloc, Free};
 ghost use Rattle.script_lines.specs.Lines.{lines, begins, call_with, request, call_of};

@@ -1,4 +1,6 @@
 // Decimal numbers in a script.
+#![tactic(auto)]
+
 ghost use Rattle.std.specs.Prelude.{◌≡◌, true, ◌+◌, ◌-◌, ◌*◌, ◌≤◌, eqb, leb, length, get_or};
 ghost use Rattle.base.specs.Tests.{pick, all_below};
 ghost use Rattle.script_numbers.specs.Numeral.{is_digit, value_of, is_number, capped};

@@ -1,4 +1,6 @@
 // The answers of the calls, printed as lines into a slice from place n on; each function answers the place after its line.
+#![tactic(auto)]
+
 ghost use Rattle.std.specs.Prelude.{◌≤◌};
 ghost use Rattle.answers.specs.Outcome.{of_format, of_alloc, of_free};
 ghost use Rattle.printing.specs.Text.{Prints};

@@ -1,4 +1,6 @@
 // The last line of a printout: the free pages and the free runs, as the pool's records tell them.
+#![tactic(auto)]
+
 ghost use Rattle.std.specs.Prelude.{◌≡◌, ◌≤◌};
 ghost use Rattle.records.specs.Layout.{no_page};
 ghost use Rattle.rules.specs.Bytes.{pages_in};

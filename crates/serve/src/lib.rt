@@ -1,6 +1,8 @@
 // Requests on sound records, in one loop. The loop has the only calls of `alloc_sound::alloc_sound` and `free_sound::free_sound`, so that
 // both are inlined into it; a single alloc or free is a list of one. `w` is the number of words of a class record, `pages` the pages of
 // the pool.
+#![tactic(auto)]
+
 ghost use Rattle.std.specs.Prelude.{◌≡◌, ◌++◌, ◌≤◌, length, drop};
 ghost use Rattle.answers.specs.Outcome.{of_alloc, of_free};
 ghost use Rattle.answer_words.specs.Word.{word_of};

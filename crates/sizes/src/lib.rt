@@ -1,4 +1,6 @@
 // Sizes, classes and offsets.
+#![tactic(auto)]
+
 ghost use Rattle.std.specs.Prelude.{◌≡◌, ◌+◌, ◌*◌, ◌≤◌};
 ghost use Rattle.model.specs.Classes.{chunk, pages_for};
 ghost use Rattle.sizes.specs.Mirror.{class_for};

@@ -1,5 +1,7 @@
 // Whether a pool's records are sound (SPEC 3): one pass over the pages and one walk along each list.
 // `w` is the number of words of a class record.
+#![tactic(auto)]
+
 ghost use Rattle.std.specs.Prelude.{◌≡◌, ◌≤◌, eqb};
 ghost use Rattle.rules.specs.Bytes.{pages_in, broken_rule};
 ghost use Rattle.validate_totals.specs.Mirror.{Scanned};

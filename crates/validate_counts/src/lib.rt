@@ -1,4 +1,6 @@
 // Rules 5 and 6 of a pool that was scanned: chunks in use, the counts of header and class records, and the peaks.
+#![tactic(auto)]
+
 ghost use Rattle.std.specs.Prelude.{◌≡◌, false, ◌<◌};
 ghost use Rattle.base.specs.Tests.{pick, all_below};
 ghost use Rattle.rules.specs.Rules.{rule5, rule6, counts_fit};

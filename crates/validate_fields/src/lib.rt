@@ -1,4 +1,6 @@
 // The fields of a pool as the rules name them, read from its words. Reads are total: a page outside the pool shows zeros.
+#![tactic(auto)]
+
 ghost use Rattle.std.specs.Prelude.{◌≡◌, ◌*◌, ◌≤◌, ◌<◌};
 ghost use Rattle.words.specs.Word.{word};
 ghost use Rattle.records.specs.Layout.{no_page, links_place};

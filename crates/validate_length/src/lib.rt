@@ -1,4 +1,6 @@
 // Rule 1: the page count that a length gives, and the header.
+#![tactic(auto)]
+
 ghost use Rattle.std.specs.Prelude.{◌≡◌};
 ghost use Rattle.records.specs.Layout.{page_count};
 ghost use Rattle.rules.specs.Bytes.{pages_in, rule1};

@@ -1,4 +1,6 @@
 // Rules 3 and 4 of a pool that was scanned: the free-run list and the nine class lists, each walked once.
+#![tactic(auto)]
+
 ghost use Rattle.std.specs.Prelude.{◌≡◌, ◌<◌};
 ghost use Rattle.base.specs.Tests.{all_below};
 ghost use Rattle.rules.specs.Rules.{rule3, rule4, class_list};

@@ -1,4 +1,6 @@
 // One pass over the pages, a run or a class page at a time: rule 2, and what the other rules need to know of all pages, in eleven counters.
+#![tactic(auto)]
+
 ghost use Rattle.std.specs.Prelude.{◌≡◌, ℕ, ◌<◌, ◌≤◌, true, length, slice_index};
 ghost use Rattle.records.specs.Layout.{no_page};
 ghost use Rattle.records.specs.Page.{unpack_links};

@@ -1,4 +1,6 @@
 // Rule 2 for free runs and taken runs, a run at a time: the pages after its first are told by their words.
+#![tactic(auto)]
+
 ghost use Rattle.std.specs.Prelude.{◌≡◌, ◌+◌, ◌≤◌, ◌<◌};
 ghost use Rattle.records.specs.Layout.{no_page};
 ghost use Rattle.records.specs.Page.{unpack_links};

@@ -1,5 +1,7 @@
 // Rule 2 with next, previous and the nine zero bits set aside, a page at a time, and the counters of the pass over the pages:
 // what can be told of a pool whose links are lost.
+#![tactic(auto)]
+
 ghost use Rattle.std.specs.Prelude.{◌≡◌, true, ℕ, ◌+◌, ◌-◌, ◌≤◌, ◌<◌, eqb, length, get_or};
 ghost use Rattle.records.specs.Layout.{no_page};
 ghost use Rattle.base.specs.Tests.{all_below};

@@ -1,4 +1,6 @@
 // Rule 2 for class pages.
+#![tactic(auto)]
+
 ghost use Rattle.std.specs.Prelude.{◌≡◌, ◌≤◌, ◌<◌};
 ghost use Rattle.records.specs.Layout.{no_page};
 ghost use Rattle.base.specs.Tests.{all_below};

@@ -1,4 +1,6 @@
 // The three counts that a counter of the pass over the pages holds.
+#![tactic(auto)]
+
 ghost use Rattle.std.specs.Prelude.{◌≡◌, ◌/◌, ◌%◌, ◌<◌, get_or};
 
 use validate_pages::{SECOND, THIRD};

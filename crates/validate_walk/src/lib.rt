@@ -1,4 +1,6 @@
 // Walks along the lists of a pool whose pages are well shaped (rule 2, links set aside): with as many pages to come as belong on the list, a walk ends.
+#![tactic(auto)]
+
 ghost use Rattle.std.specs.Prelude.{◌≡◌, true, false, not, ◌/◌, ◌≤◌, ◌<◌, eqb};
 ghost use Rattle.base.specs.Tests.{pick};
 ghost use Rattle.records.specs.Layout.{no_page};

@@ -1,4 +1,6 @@
 // Big-endian 64-bit words: the eight bytes from a place of a slice on, joined and taken apart.
+#![tactic(auto)]
+
 ghost use Rattle.std.specs.Prelude.{◌≡◌, ◌+◌, ◌*◌, ◌≤◌, ◌<◌, length};
 ghost use Rattle.words.specs.Mirror.{little_at, swap_pair, swap_half, swap_word, with_little_pair, with_little_half, with_little_word};
 ghost use Rattle.words.specs.Word.{word_at, with_word};
