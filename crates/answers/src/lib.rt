@@ -5,24 +5,24 @@ ghost use Rattle.std.specs.Prelude.{◌≡◌};
 ghost use Rattle.answers.specs.Outcome.{number_of};
 
 // A byte by its distance from the first page's first byte.
-#[derive(Drop)]
+#[derive(Clone, Copy)]
 pub struct Offset(pub u32);
 
 // Of format, convert and mend.
-#[derive(Drop)]
+#[derive(Clone, Copy)]
 pub enum Formatted {
     // the page count
     Pages(u16),
     Refused(Refusal),
 }
 
-#[derive(Drop)]
+#[derive(Clone, Copy)]
 pub enum Allocated {
     At(Offset),
     Refused(Refusal),
 }
 
-#[derive(Drop)]
+#[derive(Clone, Copy)]
 pub enum Freed {
     // the bytes released
     Bytes(u32),
@@ -30,13 +30,13 @@ pub enum Freed {
 }
 
 // Of batch and check_mended.
-#[derive(Drop)]
+#[derive(Clone, Copy)]
 pub enum Batched {
     Done,
     Refused(Refusal),
 }
 
-#[derive(Drop)]
+#[derive(Clone, Copy)]
 pub enum Refusal {
     // format: the slice has no room for one page
     TooShort,

@@ -20,7 +20,7 @@ use Rattle.batch.specs.Batch.{call_in, outcome_on, slice_on, reply_to, left_by, 
 
 pub in_order : (w : ℕ) → InOrder (reply_to w) (left_by w) (replies w) (left_by_all w)
 unfolding replies left_by_all
-in_order w = record { no-reply = λ s. refl; one-reply = λ s x xs. refl; none_left = λ s. refl; one_left = λ s x xs. refl }
+in_order w = record { no-reply = λ s. refl; one_reply = λ s x xs. refl; none_left = λ s. refl; one_left = λ s x xs. refl }
 
 module _ {w pages : ℕ} where
   module _ {s : List ℕ} (G : Validated w s pages) where

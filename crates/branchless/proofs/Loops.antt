@@ -10,24 +10,24 @@ use Rattle.base.specs.Tests.{pick, all_below}
 use Rattle.base.proofs.AllBelow.{all-at}
 
 -- a test, by a call's result u, that let control pass
-pub passed : (b u : Bool) → u ≡ b → not u ≡ false → b ≡ true
-passed b u e f = sym e ∙ not-false u f
+pub passed : (b u : Bool) → u ≡ b → u ≡ true → b ≡ true
+passed b u e f = sym e ∙ f
 
 module _ (t : ℕ → Bool) where
   pub all_none : all_below t 0 ≡ true
   unfolding all_below
   all_none = refl
 
-  pub all_more : (p : ℕ) (u : Bool) → u ≡ t p → not u ≡ false → all_below t p ≡ true → all_below t (p + 1) ≡ true
+  pub all_more : (p : ℕ) (u : Bool) → u ≡ t p → u ≡ true → all_below t p ≡ true → all_below t (p + 1) ≡ true
   unfolding all_below pick
-  all_more p u e f a = rw (add-one p, sym e ∙ not-false u f) a
+  all_more p u e f a = rw (add-one p, sym e ∙ f) a
 
-  pub all-fails : (n p : ℕ) (u : Bool) → p < n → u ≡ t p → not u ≡ true → false ≡ all_below t n
+  pub all-fails : (n p : ℕ) (u : Bool) → p < n → u ≡ t p → u ≡ false → false ≡ all_below t n
   all-fails n p u h e f = go (all_below t n) refl
     where
       go : (b : Bool) → all_below t n ≡ b → false ≡ b
       go false x = refl
-      go true x = sym (not-true u f) ∙ e ∙ all-at t n x p h
+      go true x = sym f ∙ e ∙ all-at t n x p h
 
   pub all_done : (n p : ℕ) → p ≤ n → n ≤ p → all_below t p ≡ true → true ≡ all_below t n
   all_done n p h k a = let e : n ≡ p = omega arith in sym (rw e a)

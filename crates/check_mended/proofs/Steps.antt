@@ -23,24 +23,24 @@ use Rattle.mending.specs.Checked.{same_page_at, same_byte_from, same_blocks, sam
 -- ---- what of the damaged pool must be good
 
 module _ (w : ℕ) (s : List ℕ) (n : ℕ) (pages : n ≡ pages_in w s) (u : Bool) (one : u ≡ rule1 w s) where
-  pub header_fails : not u ≡ true → false ≡ shaped w s
+  pub header_fails : u ≡ false → false ≡ shaped w s
   unfolding shaped all_of
-  header_fails f = sym (pick_no _ _ _ (sym one ∙ not-true u f))
+  header_fails f = sym (pick_no _ _ _ (sym one ∙ f))
 
-  module _ (f : not u ≡ false) where
+  module _ (f : u ≡ true) where
     pub few : n ≤ 4096
-    few = omega (arith, (rule1-says w s (sym one ∙ not-false u f)).few)
+    few = omega (arith, (rule1-says w s (sym one ∙ f)).few)
 
     module _ (v : Bool) (two : v ≡ shape (fields_of w s) n) where
-      pub shape-fails : not v ≡ true → false ≡ shaped w s
+      pub shape-fails : v ≡ false → false ≡ shaped w s
       unfolding shaped all_of
-      shape-fails g = sym (pick_yes _ _ _ (sym one ∙ not-false u f) ∙ pick_no _ _ _ (ap (shape (fields_of w s)) (sym pages) ∙ sym two ∙ not-true v g))
+      shape-fails g = sym (pick_yes _ _ _ (sym one ∙ f) ∙ pick_no _ _ _ (ap (shape (fields_of w s)) (sym pages) ∙ sym two ∙ g))
 
-      pub shaped-by : not v ≡ false → (r : Bool) → r ≡ rule5 (fields_of w s) n → r ≡ shaped w s
+      pub shaped-by : v ≡ true → (r : Bool) → r ≡ rule5 (fields_of w s) n → r ≡ shaped w s
       unfolding shaped all_of
       shaped-by g r five =
           sym
-          (pick_yes _ _ _ (sym one ∙ not-false u f) ∙ pick_yes _ _ _ (ap (shape (fields_of w s)) (sym pages) ∙ sym two ∙ not-false v g)
+          (pick_yes _ _ _ (sym one ∙ f) ∙ pick_yes _ _ _ (ap (shape (fields_of w s)) (sym pages) ∙ sym two ∙ g)
           ∙ last (rule5 (fields_of w s) (pages_in w s)) ∙ sym (five ∙ ap (rule5 (fields_of w s)) pages))
         where
           last : (b : Bool) → pick b true false ≡ b
@@ -60,22 +60,22 @@ module _ (w : ℕ) (s t : List ℕ) (n from : ℕ) (pages : n ≡ pages_in w s) 
   unfolding same_rest
   rest-is = rest ∙ rw (at, pages)
 
-  pub rest_differs : not u ≡ true → refused OtherBlocks ≡ compared w s t
+  pub rest_differs : u ≡ false → refused OtherBlocks ≡ compared w s t
   unfolding compared
-  rest_differs f = sym (pick_no _ _ _ (sym rest-is ∙ not-true u f))
+  rest_differs f = sym (pick_no _ _ _ (sym rest-is ∙ f))
 
-  module _ (f : not u ≡ false) (v : Bool) (each : v ≡ all_below (same_page_at (fields_of w s) (fields_of w t)) n) where
+  module _ (f : u ≡ true) (v : Bool) (each : v ≡ all_below (same_page_at (fields_of w s) (fields_of w t)) n) where
     each-is : v ≡ same_blocks w s t
     unfolding same_blocks
     each-is = each ∙ rw pages
 
-    pub pages-differ : not v ≡ true → refused OtherBlocks ≡ compared w s t
+    pub pages-differ : v ≡ false → refused OtherBlocks ≡ compared w s t
     unfolding compared
-    pages-differ g = sym (pick_yes _ _ _ (sym rest-is ∙ not-false u f) ∙ pick_no _ _ _ (sym each-is ∙ not-true v g))
+    pages-differ g = sym (pick_yes _ _ _ (sym rest-is ∙ f) ∙ pick_no _ _ _ (sym each-is ∙ g))
 
-    pub all_same : not v ≡ false → granted 0 ≡ compared w s t
+    pub all_same : v ≡ true → granted 0 ≡ compared w s t
     unfolding compared
-    all_same g = sym (pick_yes _ _ _ (sym rest-is ∙ not-false u f) ∙ pick_yes _ _ _ (sym each-is ∙ not-false v g))
+    all_same g = sym (pick_yes _ _ _ (sym rest-is ∙ f) ∙ pick_yes _ _ _ (sym each-is ∙ g))
 
 -- ---- the answer
 
@@ -85,25 +85,25 @@ module _ (w : ℕ) (s t : List ℕ) where
   other_length d = sym (pick_no _ _ _ (ne_eqb _ _ d))
 
   module _ (l : length s ≡ length t) (e : Bool) (first : e ≡ eqb (get_or s 0 0) (get_or t 0 0)) where
-    pub other_edition : not e ≡ true → refused WrongLength ≡ check_outcome w s t
+    pub other_edition : e ≡ false → refused WrongLength ≡ check_outcome w s t
     unfolding check_outcome
-    other_edition f = sym (pick_yes _ _ _ (eq-eqb _ _ l) ∙ pick_no _ _ _ (sym first ∙ not-true e f))
+    other_edition f = sym (pick_yes _ _ _ (eq-eqb _ _ l) ∙ pick_no _ _ _ (sym first ∙ f))
 
-    module _ (f : not e ≡ false) (u : Bool) (good : u ≡ shaped w s) where
-      pub beyond : not u ≡ true → refused BeyondMending ≡ check_outcome w s t
+    module _ (f : e ≡ true) (u : Bool) (good : u ≡ shaped w s) where
+      pub beyond : u ≡ false → refused BeyondMending ≡ check_outcome w s t
       unfolding check_outcome
-      beyond g = sym (pick_yes _ _ _ (eq-eqb _ _ l) ∙ pick_yes _ _ _ (sym first ∙ not-false e f) ∙ pick_no _ _ _ (sym good ∙ not-true u g))
+      beyond g = sym (pick_yes _ _ _ (eq-eqb _ _ l) ∙ pick_yes _ _ _ (sym first ∙ f) ∙ pick_no _ _ _ (sym good ∙ g))
 
-      module _ (g : not u ≡ false) (v : Bool) (sound : v ≡ eqb (broken_rule w t) 0) where
+      module _ (g : u ≡ true) (v : Bool) (sound : v ≡ eqb (broken_rule w t) 0) where
         to_here : check_outcome w s t ≡ pick (eqb (broken_rule w t) 0) (compared w s t) (refused NotSound)
         unfolding check_outcome
-        to_here = pick_yes _ _ _ (eq-eqb _ _ l) ∙ pick_yes _ _ _ (sym first ∙ not-false e f) ∙ pick_yes _ _ _ (sym good ∙ not-false u g)
+        to_here = pick_yes _ _ _ (eq-eqb _ _ l) ∙ pick_yes _ _ _ (sym first ∙ f) ∙ pick_yes _ _ _ (sym good ∙ g)
 
-        pub unsound : not v ≡ true → refused NotSound ≡ check_outcome w s t
-        unsound h = sym (to_here ∙ pick_no _ _ _ (sym sound ∙ not-true v h))
+        pub unsound : v ≡ false → refused NotSound ≡ check_outcome w s t
+        unsound h = sym (to_here ∙ pick_no _ _ _ (sym sound ∙ h))
 
-        pub by_comparison : not v ≡ false → (o : Outcome) → o ≡ compared w s t → o ≡ check_outcome w s t
-        by_comparison h o z = z ∙ sym (to_here ∙ pick_yes _ _ _ (sym sound ∙ not-false v h))
+        pub by_comparison : v ≡ true → (o : Outcome) → o ≡ compared w s t → o ≡ check_outcome w s t
+        by_comparison h o z = z ∙ sym (to_here ∙ pick_yes _ _ _ (sym sound ∙ h))
 
 -- ---- a loop that tests each number below n and goes on
 

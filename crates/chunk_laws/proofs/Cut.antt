@@ -113,7 +113,7 @@ module _ (w : ℕ) (wide : 2 ≤ w) (narrow : w ≤ 255) (s : List ℕ) (B : Byt
   records_room = rw (length-mapped w m s) (omega arith)
 
   free : is_idle (m.page p) ≡ true
-  free = let (mr, l) = fit_found 1 m.runs r found in (W.free-runs.sound r mr).all_free p (omega arith) (omega arith)
+  free = let (mr, l) = fit_found 1 m.runs r found in (W.free_runs.sound r mr).all_free p (omega arith) (omega arith)
 
   was : m.page p ≡ idle
   was = is_idle_lem (m.page p) free
@@ -186,7 +186,7 @@ module _ (w : ℕ) (wide : 2 ≤ w) (narrow : w ≤ 255) (s : List ℕ) (B : Byt
       (pushed-shows (front_scene T shows 1 (omega arith) r found n.page (upd_out m.page p x) busy) c ok (W.class-lists.once c) (lists-apart m W few c)
       (front_shows T shows 1 (omega arith) r found n.page (upd_out m.page p x) busy) p below
       (front_unlisted T shows 1 (omega arith) r found n.page (upd_out m.page p x) busy p (omega arith) (omega arith)) (new_marks c) here (λ q h o. (h, o))))
-      (pushed.same_free_pages ∙ front_pages T shows 1 (omega arith) r found ∙ free_less)
+      (pushed.free_pages ∙ front_pages T shows 1 (omega arith) r found ∙ free_less)
       (λ d. pushed.class d ∙ ap (λ (f : ℕ → ClassRecord). first_to (f d) (L.class d).first.0) (front_class T shows 1 (omega arith) r found))
       (λ q. ap (λ (f : ℕ → ℕ). f q) (pushed.map ∙ front_map T shows 1 (omega arith) r found)) w S)
     where

@@ -160,11 +160,11 @@ module _ {w : ℕ} {s : List ℕ} {m : State} {p c : ℕ} {k : ℕ → Bool} (H 
             (λ q l e. omega (arith, W.table.ends q e)) most S (remarked.records-room H),
       )
       (shown-midway m n W Wn refl few K (released-shows T p 1 shows (omega arith) (omega (arith, page-below H)) busy off)
-      (released-pages T p 1 shows (omega arith) (omega (arith, page-below H)) busy off ∙ ap (λ (x : ℕ). x + 1) relinked.same_free_pages ∙ free_more)
+      (released-pages T p 1 shows (omega arith) (omega (arith, page-below H)) busy off ∙ ap (λ (x : ℕ). x + 1) relinked.free_pages ∙ free_more)
       (λ d. class d) (λ q. ap (λ (f : ℕ → ℕ). f q) (released-map T p 1 shows (omega arith) (omega (arith, page-below H)) busy off ∙ relinked.map)) w S)
     where
       most : J.free_pages + 1 < 65536
-      most = rw relinked.same_free_pages (unfold state_image free_in in omega (arith, count_bound (λ j. is_idle (m.page j)) m.size))
+      most = rw relinked.free_pages (unfold state_image free_in in omega (arith, count_bound (λ j. is_idle (m.page j)) m.size))
 
       class : (d : ℕ) → K.class d ≡ first_to ((state_image m).class d) (K.class d).first.0
       class d =

@@ -105,7 +105,7 @@ module _ {w : ℕ} {s : List ℕ} {m : State} {p c : ℕ} {k : ℕ → Bool} (H 
       (λ d. unfold relisted in (rw h))
       (pushed-shows (state_scene W (omega arith)) c (page_ok H).in_range (W.class-lists.once c) (remarked.lists-apart m W few c) (state-shows m W (omega arith)) p (page-below H) off k is
       (λ q h o. h))
-      pushed.same_free_pages pushed.class pushed.map) _ refl)
+      pushed.free_pages pushed.class pushed.map) _ refl)
     where
       L : Image
       L = push (state_image m) (suc c) p (class_links c)

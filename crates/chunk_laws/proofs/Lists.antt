@@ -174,7 +174,7 @@ module _ {P : ℕ} {page : ℕ → Page} {rs : List Run} {ls : ℕ → List ℕ}
 
       pub pushed-shows : ((q : ℕ) → q < P → Out p 1 q → on q) → ShowsLinks P page rs more L
       pushed-shows was = record {
-        free-list =
+        free_list =
             push-others J (suc c) (ls c) once (λ q. low c q ok) (S.class_list c ok) 0 (starts rs) (λ e. omega arith) run-low run-off S.free_list p page-low new.no_run
             (class_links c);
         class_list = λ d l. class d l (eq? d c);

@@ -194,7 +194,7 @@ module _ (w : ℕ) (s : List ℕ) (m : State) (W : WellFormed m) (room : 8 + 72 
     -- to write the map field as it is changes nothing
     same_map : (v : ℕ) (T : List ℕ) → I.map p ≡ v → paint w P I T ≡ paint w P (set_map I p v) T
     same_map v T e = paint_ext w P I (set_map I p v) T (record {
-      same_free_pages = refl;
+      free_pages = refl;
       first_run = refl;
       class = λ c l. refl;
       map = λ q l. ⊎_elim (λ (z : q ≡ p). ap I.map z ∙ e ∙ sym (ap (upd I.map p v) z ∙ upd_same I.map p v)) (λ (z : q ≢ p). sym (upd_other I.map p v q z)) (eq? q p);

@@ -60,7 +60,7 @@ first_drawn w P wide I S room F c ok f x small t e =
     let G : Fits P (set_class I c r) = fits-class F c r (λ l. first_fits (I.class c) x (F.class c l) small) in
     class_drawn w P wide I S room F c ok (λ y. f (first_to y x))
     ∙ paint_ext w P (set_class I c (f r)) (set_class (set_class I c r) c (f r)) S (record {
-      same_free_pages = refl;
+      free_pages = refl;
       first_run = refl;
       class = λ d l. upd_twice I.class c r (f r) d;
       map = λ q l. refl;
@@ -70,7 +70,7 @@ first_drawn w P wide I S room F c ok f x small t e =
 
 -- map fields have the width of a word
 pub fits-map : {P : ℕ} {I : Image} → Fits P I → (p v : ℕ) → Fits P (set_map I p v)
-fits-map F p v = record { same_free_pages = F.same_free_pages; first_run = F.first_run; class = F.class; links = F.links }
+fits-map F p v = record { free_pages = F.free_pages; first_run = F.first_run; class = F.class; links = F.links }
 
 -- the map fields, where one page changes
 pub map_frame : (m n : State) (p v : ℕ) → ((q : ℕ) → q ≢ p → n.page q ≡ m.page q) → map_of (n.page p) ≡ v → (q : ℕ) → upd (state_image m).map p v q ≡ (state_image n).map q
@@ -97,7 +97,7 @@ module _ (m n : State) (W : WellFormed m) (Wn : WellFormed n) (size : n.size ≡
 
   pub midway-fits : Fits P (midway m n)
   midway-fits = record {
-    same_free_pages = after.same_free_pages;
+    free_pages = after.free_pages;
     first_run = after.first_run;
     class = λ d l. first_fits ((state_image m).class d) _ (before.class d l) (after.class d l).first;
     links = after.links;
@@ -108,7 +108,7 @@ module _ (m n : State) (W : WellFormed m) (Wn : WellFormed n) (size : n.size ≡
       → ((d : ℕ) → K.class d ≡ first_to ((state_image m).class d) (K.class d).first.0) → ((q : ℕ) → K.map q ≡ (state_image m).map q)
       → (w : ℕ) (S : List ℕ) → paint w P K S ≡ paint w P (midway m n) S
   shown-midway K L free class map w S = paint_ext w P K (midway m n) S (record {
-    same_free_pages = free;
+    free_pages = free;
     first_run = unfold state_image first_in pick in first-listed K 0 (starts n.runs) L.free_list;
     class = λ d l. class d ∙ ap (first_to ((state_image m).class d)) (first d (omega arith));
     map = λ q l. map q;
@@ -136,7 +136,7 @@ module _ (m n : State) (W : WellFormed m) (Wn : WellFormed n) (size : n.size ≡
       → ((d : ℕ) → d ≢ c → first_to ((state_image m).class d) ((state_image n).class d).first.0 ≡ (state_image n).class d)
       → (w : ℕ) (S : List ℕ) → paint w P (set_class (with_maps (midway m n) f) c r) S ≡ paint w P (state_image n) S
   counts_drawn c f r map own other w S = paint_ext w P _ (state_image n) S (record {
-    same_free_pages = refl;
+    free_pages = refl;
     first_run = refl;
     class = λ d l. go d (eq? d c);
     map = map;

@@ -133,7 +133,7 @@ module _ {w : ℕ} {s : List ℕ} {m : State} {p c : ℕ} {k : ℕ → Bool} (H 
       (small P (omega arith) near)
       (ap (λ (I : Image). paint w P I S) (first-left (state_image m) c p (class_links c) (rw first) (rw first (head_out no_page p rest (omega (arith, page-below H)) once.0)))
       ∙ remarked.lists-drawn H i true clear.0 l (n l).tally Wn less (set_links J p (class_links c))
-      (λ d. ap (λ (x : List ℕ). upd m.lists c x d) (gone ∙ rw h)) aside relinked.same_free_pages relinked.class relinked.map) _ refl)
+      (λ d. ap (λ (x : List ℕ). upd m.lists c x d) (gone ∙ rw h)) aside relinked.free_pages relinked.class relinked.map) _ refl)
     where
       first : (state_image m).links p ≡ links 2 c 0 (head_or no_page rest) no_page
       first = remarked.page-links H ∙ rw (on, eq-eqb p p refl)

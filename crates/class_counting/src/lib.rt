@@ -81,7 +81,7 @@ fn count_first_back(pool: &mut [u8], k: usize, p: PageNumber)
 
 // ---- the tally of a class: the word of its counts, the word of its asks and failures, and its peak
 
-#[derive(Drop)]
+#[derive(Clone, Copy)]
 pub struct Tally {
     pub counts: u64,
     pub asks: u64,

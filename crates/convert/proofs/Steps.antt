@@ -74,12 +74,12 @@ laid_at P s t v e =
 -- ---- what the tests let pass
 
 module _ (s t : List ℕ) (B : Bytes s) (C : Bytes t) (u : Bool) (e : u ≡ eqb (broken_rule 2 s) 0) where
-  pub not_sound_lem : not u ≡ true → (refused NotSound ≡ convert_outcome s t) × (t ≡ converted s t)
-  not_sound_lem n = let (a, b) = unsound s t (eqb-false _ _ (sym e ∙ not-true u n)) in (sym a, sym b)
+  pub not_sound_lem : u ≡ false → (refused NotSound ≡ convert_outcome s t) × (t ≡ converted s t)
+  not_sound_lem n = let (a, b) = unsound s t (eqb-false _ _ (sym e ∙ n)) in (sym a, sym b)
 
-  module _ (n : not u ≡ false) (pages : ℕ) (p : pages ≡ page_count 2 (length s) % 65536) where
+  module _ (n : u ≡ true) (pages : ℕ) (p : pages ≡ page_count 2 (length s) % 65536) where
     sound : broken_rule 2 s ≡ 0
-    sound = eqb-true _ _ (sym e ∙ not-false u n)
+    sound = eqb-true _ _ (sym e ∙ n)
 
     pages_are : pages ≡ pages_in 2 s
     pages_are =

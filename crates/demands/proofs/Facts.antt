@@ -107,7 +107,7 @@ module _ (w : ℕ) (wide : 2 ≤ w) (narrow : w ≤ 255) (s : List ℕ) (B : Byt
   pub run_found : (k : ℕ) (r : Run) → fit k m.runs ≡ some r → (r.start ≢ no_page) × (k < 65536)
   run_found k r e =
       let (x, l) = fit_found k m.runs r e in
-      let R = W.free-runs.sound r x in
+      let R = W.free_runs.sound r x in
       let inner : r.start + r.len ≤ m.size = run_inside r.start r.len R.some-page (λ j a b. R.all_free j a b) in
       (λ d. omega (arith, R.some-page, fitting.few), omega (arith, fitting.few))
     where

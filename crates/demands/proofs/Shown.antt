@@ -56,7 +56,7 @@ module _ {v : Fields} {n : ℕ} (W : WellFormed (read_fields v n)) (A : Agree n 
 
   links_are : (p : ℕ) → p < n → v.image.links p ≡ page_links m.runs m.lists p (m.page p)
   unfolding state_fields state_image
-  links_are p h = A.image-same.links p h
+  links_are p h = A.image_same.links p h
 
   -- the first page of a free run has its length, and no other page starts one
   runs-shown : (p : ℕ) → pick (is_head v n p) (run v p) 0 ≡ starts_at p m.runs
@@ -66,7 +66,7 @@ module _ {v : Fields} {n : ℕ} (W : WellFormed (read_fields v n)) (A : Agree n 
       free_here : starts_at p m.runs ≢ 0 → is_idle (m.page p) ≡ true
       free_here d =
           let (r, k, e, l) = started W.free_runs p d in
-          (W.free-runs.sound r k).all_free p (omega arith) (omega (arith, (W.free-runs.sound r k).some-page))
+          (W.free_runs.sound r k).all_free p (omega arith) (omega (arith, (W.free_runs.sound r k).some-page))
 
       here : (x : Page) → m.page p ≡ x → p < n → is_idle x ≡ true → v.image.links p ≡ free_links m.runs p
       here idle e h i = links_are p h ∙ ap (page_links m.runs m.lists p) e

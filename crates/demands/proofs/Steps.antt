@@ -129,15 +129,15 @@ module _ (w : ℕ) (wide : 2 ≤ w) (narrow : w ≤ 255) (s : List ℕ) (B : Byt
 -- ---- from what validation answers
 
 module _ (w : ℕ) (s : List ℕ) (t : Bool) (e : t ≡ eqb (broken_rule w s) 0) where
-  pub refused-unsound : (call : Call) → not t ≡ true → (refused NotSound ≡ answered w s call) × (s ≡ after w s call)
+  pub refused-unsound : (call : Call) → t ≡ false → (refused NotSound ≡ answered w s call) × (s ≡ after w s call)
   unfolding answered after
   refused-unsound call n =
-      let f : eqb (broken_rule w s) 0 ≡ false = sym e ∙ not-true t n in
+      let f : eqb (broken_rule w s) 0 ≡ false = sym e ∙ n in
       (sym (pick_no _ _ _ f), sym (pick_no _ _ _ f))
 
-  module _ (wide : 2 ≤ w) (narrow : w ≤ 255) (B : Bytes s) (n : not t ≡ false) (pages : ℕ) (p : pages ≡ page_count w (length s) % 65536) where
+  module _ (wide : 2 ≤ w) (narrow : w ≤ 255) (B : Bytes s) (n : t ≡ true) (pages : ℕ) (p : pages ≡ page_count w (length s) % 65536) where
     sound : broken_rule w s ≡ 0
-    sound = eqb-true _ _ (sym e ∙ not-false t n)
+    sound = eqb-true _ _ (sym e ∙ n)
 
     pages_are : pages ≡ pages_in w s
     pages_are = p ∙ omega (arith, few w wide narrow s B sound)

@@ -90,7 +90,7 @@ module _ (w : ℕ) (wide : 2 ≤ w) (s : List ℕ) (m : State) where
       unfolding draw
       header_drawn =
           header_shown w m.size wide (state_image m) (mapped w m s) records_room
-          (header_fits w m.size _ _ narrow (omega arith) F.same_free_pages F.first_run)
+          (header_fits w m.size _ _ narrow (omega arith) F.free_pages F.first_run)
 
       links_drawn : (p : ℕ) → p < m.size → links_at w (draw w s m) p ≡ (state_image m).links p
       unfolding draw
@@ -103,7 +103,7 @@ module _ (w : ℕ) (wide : 2 ≤ w) (s : List ℕ) (m : State) where
       image_drawn : Same m.size (image_of w (draw w s m)) (state_image m)
       unfolding image_of
       image_drawn = record {
-        same_free_pages = ap (λ (h : Header). h.free_pages) header_drawn;
+        free_pages = ap (λ (h : Header). h.free_pages) header_drawn;
         first_run = ap (λ (h : Header). h.first_run.0) header_drawn;
         class = λ c h. unfold draw in class-shown w m.size wide (state_image m) (mapped w m s) records_room c h (F.class c h);
         map = map_drawn;
@@ -124,8 +124,8 @@ module _ (w : ℕ) (wide : 2 ≤ w) (s : List ℕ) (m : State) where
             some = omega (arith, room, length_drawn, W.some-page);
             few = rw pages_drawn most;
             edition = ap (λ (h : Header). h.edition) header_drawn;
-            same_min_shift = ap (λ (h : Header). h.min_shift) header_drawn;
-            same_page_shift = ap (λ (h : Header). h.page_shift) header_drawn;
+            min_shift = ap (λ (h : Header). h.min_shift) header_drawn;
+            page_shift = ap (λ (h : Header). h.page_shift) header_drawn;
             pages = ap (λ (h : Header). h.pages) header_drawn ∙ sym pages_drawn;
           })
 

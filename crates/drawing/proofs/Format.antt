@@ -81,7 +81,7 @@ module _ (P : ℕ) where
     image-fresh : Same P (fresh_image P) (state_image (fresh P))
     unfolding state_image fresh_image
     image-fresh = record {
-      same_free_pages = unfold fresh free_in in sym (count-all _ P (λ p h. rw (lt-ltb p P h)));
+      free_pages = unfold fresh free_in in sym (count-all _ P (λ p h. rw (lt-ltb p P h)));
       first_run = unfold fresh in refl;
       class = λ c h i. unfold fresh in class_record no_page (sym (fresh-used P c) i) (sym (none-total c) i) ((fresh P).tally c);
       map = λ p h. rw (page_in p h);

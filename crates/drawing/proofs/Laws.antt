@@ -145,7 +145,7 @@ module _ (w : ℕ) (wide : 2 ≤ w) (narrow : w ≤ 255) (s : List ℕ) (B : Byt
 
     pub used_drawn : (c : ℕ) → c < 9 → (class_at w (draw w s m) c).used ≡ used_of m c
     unfolding fields_of image_of state_fields state_image
-    used_drawn c h = ap (λ (r : ClassRecord). r.used) (shows.image-same.class c h)
+    used_drawn c h = ap (λ (r : ClassRecord). r.used) (shows.image_same.class c h)
 
     drawn_sound : Peaked w s m → broken_rule w (draw w s m) ≡ 0
     drawn_sound Q =

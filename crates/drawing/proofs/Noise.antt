@@ -19,7 +19,6 @@ use Rattle.records.specs.Page.{unpack_links, links_at}
 use Rattle.model.specs.Classes.{chunks}
 use Rattle.maps.proofs.Marks.{mark_byte}
 use Rattle.image.proofs.Places.{class-below}
-use Rattle.rules.specs.Fields.{class}
 use Rattle.rules.specs.Bytes.{pages_in, mark_at, image_of, fields_of, rule1, peak_fits, peaks_fit}
 use Rattle.rules.specs.Agree.{Agree}
 use Rattle.drawing.specs.Noise.{SameRecords}
@@ -48,7 +47,7 @@ module _ (w : ℕ) (wide : 2 ≤ w) (s t : List ℕ) (S : SameRecords w s t) whe
   image_same : Same (pages_in w s) (image_of w s) (image_of w t)
   unfolding image_of
   image_same = record {
-    same_free_pages = ap (λ (h : Header). h.free_pages) header_same;
+    free_pages = ap (λ (h : Header). h.free_pages) header_same;
     first_run = ap (λ (h : Header). h.first_run.0) header_same;
     class = λ c h.
         let below = class-below w wide c h in

@@ -34,7 +34,7 @@ paint-keeps w P I s a b F M B =
     (write_keeps (map_place w) P _ _
     (write_keeps (tally_place w) 9 _ _
     (write_keeps (counts_place w) 9 _ _
-    (set_word-keeps s 0 _ B (header_small _ (header_fits w P _ _ a b F.same_free_pages F.same_first_run)))
+    (set_word-keeps s 0 _ B (header_small _ (header_fits w P _ _ a b F.free_pages F.first_run)))
     (λ c l. counts-small _ (F.class c l)))
     (λ c l. tally-small _ (F.class c l)))
     M)
@@ -46,8 +46,8 @@ module _ (w : ℕ) (s : List ℕ) (B : Bytes s) (R : Rule1 w s) where
   header_is : header_of w (pages_in w s) (header_at s).free_pages (header_at s).first_run.0 ≡ header_at s
   header_is i = record {
     edition = sym R.edition i;
-    min_shift = sym R.same_min_shift i;
-    page_shift = sym R.same_page_shift i;
+    min_shift = sym R.min_shift i;
+    page_shift = sym R.page_shift i;
     pages = sym R.pages i;
     free_pages = (header_at s).free_pages;
     first_run = (header_at s).first_run;

@@ -13,13 +13,13 @@ use answers::{Offset, Refusal};
 use free_all_list::{Stop, TriedList};
 
 // The first offset that could not be freed, by its place from 0. A list has fewer than 2^32 offsets before it: they are of live blocks.
-#[derive(Drop)]
+#[derive(Clone, Copy)]
 pub struct Failed {
     pub place: u32,
     pub refusal: Refusal,
 }
 
-#[derive(Drop)]
+#[derive(Clone, Copy)]
 pub enum FreedAll {
     // how many blocks were given back
     Blocks(u32),

@@ -10,13 +10,13 @@ use answers::{Offset, Refusal};
 use free_all_try::Tried;
 
 // The first offset that is refused, by its place from 0.
-#[derive(Drop)]
+#[derive(Clone, Copy)]
 pub struct Stop {
     pub place: usize,
     pub refusal: Refusal,
 }
 
-#[derive(Drop)]
+#[derive(Clone, Copy)]
 pub enum TriedList {
     Granted,
     Stopped(Stop),

@@ -22,6 +22,7 @@ times_same x ys = rw (eq-eqb x x refl)
 mem-times : (x : ℕ) (xs : List ℕ) → Mem x xs → 1 ≤ times x xs
 mem-times x (y ∷ ys) (inl z) = rw (eq-eqb y x (sym z)) (omega arith)
 mem-times x (y ∷ ys) (inr m) = omega (arith, mem-times x ys m)
+mem-times x [] x'' = elim x'' [ ]
 
 times-mem : (x : ℕ) (xs : List ℕ) → 1 ≤ times x xs → Mem x xs
 times-mem x [] h = absurd (omega arith)

@@ -297,6 +297,9 @@ module _ (t : Trial) (ok : TrialOk t.page) (s : State) (agrees : (p : ℕ) → s
       let some : has_taken c m ≡ true = taken_at c m (q / chunk c) o (chunk_index c (ok.in_range p c m e) (q / chunk c) (omega arith)) k in
       rw (some, b, k) (chunk-settled p c m (q / chunk c) e j)
   settles_at p q l (taken n) e (f, d) j = rw (f, d) (run_settled p n e j)
+  settles_at p q l edge e x5 j = elim x5 [ ]
+  settles_at p q l inside e x4 j = elim x4 [ ]
+  settles_at p q l idle e x3 j = elim x3 [ ]
 
   pub settles : (off : ℕ) → verdict (tried t off) ≡ granted → (j : ℕ) → settled (tentative t off) j ≡ (step s (Free off)).after.page j
   unfolding tried settled tentative step free

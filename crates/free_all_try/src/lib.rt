@@ -14,7 +14,7 @@ use answers::{Offset, Refusal};
 use locate::Found;
 use records::{CLASS_PAGE, FIRST_TAKEN, Links, PAGE, PageNumber};
 
-#[derive(Drop)]
+#[derive(Clone, Copy)]
 pub enum Tried {
     Granted,
     Refused(Refusal),

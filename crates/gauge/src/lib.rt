@@ -14,7 +14,7 @@ const ROUND: u32 = 40;
 
 // Laid out as `struct dnk_gauge` of the header.
 #[repr(C)]
-#[derive(Drop)]
+#[derive(Clone, Copy)]
 pub struct Gauge {
     // the smoothed number of pages in use
     pub load: f64,
@@ -25,14 +25,14 @@ pub struct Gauge {
 }
 
 // What start and sample answer.
-#[derive(Drop)]
+#[derive(Clone, Copy)]
 pub enum Gauged {
     Now(Gauge),
     Refused(Refusal),
 }
 
 // What trips answers.
-#[derive(Drop)]
+#[derive(Clone, Copy)]
 pub enum Tripped {
     Yes,
     No,

@@ -11,7 +11,7 @@ use gauge::{Gauge, Gauged, Tripped};
 
 // What a call answers, and the gauge afterwards; laid out as `struct dnk_gauge_reply` of the header.
 #[repr(C)]
-#[derive(Drop)]
+#[derive(Clone, Copy)]
 pub struct GaugeReply {
     pub answer: u64,
     pub gauge: Gauge,

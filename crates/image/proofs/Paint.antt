@@ -52,7 +52,7 @@ module _ (w P : ℕ) where
   pub paint_ext : (I J : Image) (s : List ℕ) → Same P I J → paint w P I s ≡ paint w P J s
   unfolding paint
   paint_ext I J s e =
-      let h : on_header I s ≡ on_header J s = rw (e.same_free_pages, e.first_run) in
+      let h : on_header I s ≡ on_header J s = rw (e.free_pages, e.first_run) in
       let c : on_counts I (on_header I s) ≡ on_counts J (on_header J s) =
       rw h (write_ext (counts_place w) 9 (λ d. pack_counts (I.class d)) (λ d. pack_counts (J.class d)) (on_header J s) (λ d l. ap pack_counts (e.class d l))) in
       let t : on_tally I (on_counts I (on_header I s)) ≡ on_tally J (on_counts J (on_header J s)) =

@@ -68,6 +68,7 @@ module _ (at : ℕ → ℕ) where
         go (inr p) ih =
             set_word-move (write_at at n f s) (at n) (at i) (f n) v (apart n i (λ e. p (sym e)))
             ∙ rw (ih (omega arith), upd_other f i v n (λ e. p (sym e)))
+    set-write zero f s i v l = elim l [ ]
 
     pub word_write : (n : ℕ) (f : ℕ → ℕ) (s : List ℕ) (i : ℕ) → i < n → at i < length s / 8 → word (write_at at n f s) (at i) ≡ f i
     unfolding write_at
@@ -76,3 +77,4 @@ module _ (at : ℕ → ℕ) where
         go : (i ≡ n) ⊎ (i ≢ n) → (i < n → word (write_at at n f s) (at i) ≡ f i) → word (set_word (write_at at n f s) (at n) (f n)) (at i) ≡ f i
         go (inl p) ih = rw (p, word-set_same (write_at at n f s) (at n) (f n) (rw (length-write n f s, ← p) h))
         go (inr p) ih = word-set_other (write_at at n f s) (at n) (at i) (f n) (apart i n p) ∙ ih (omega arith)
+    word_write zero f s i l h = elim l [ ]

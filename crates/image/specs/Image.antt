@@ -59,8 +59,8 @@ with_peaks w f s = pick (ltb 2 w) (write_at (peak_place w) 9 (λ c. pack_peak (f
 
 -- two images show the same for P pages
 pub record Same (P : ℕ) (I J : Image) : Type 0 where
-  pub same_free_pages : I.free_pages ≡ J.free_pages
-  pub same_first_run : I.first_run ≡ J.first_run
+  pub free_pages : I.free_pages ≡ J.free_pages
+  pub first_run : I.first_run ≡ J.first_run
   pub class : (c : ℕ) → c < 9 → I.class c ≡ J.class c
   pub map : (p : ℕ) → p < P → I.map p ≡ J.map p
   pub links : (p : ℕ) → p < P → I.links p ≡ J.links p

@@ -18,14 +18,14 @@ use answers::{Allocated, Freed, Offset, Refusal};
 const MOST_BYTES: usize = 65535;
 
 // A record's place in the pool.
-#[derive(Drop)]
+#[derive(Clone, Copy)]
 pub struct RecordAt {
     pub offset: Offset,
     // in bytes
     pub len: u16,
 }
 
-#[derive(Drop)]
+#[derive(Clone, Copy)]
 pub enum Held {
     At(RecordAt),
     Refused(Refusal),

@@ -161,7 +161,7 @@ module _ (w : Store) (S : Sound w) (key : ℕ) (key16 : key < 65536) (r : List �
       entry = upd_other w.entry i x j d;
       bytes = λ a u v. let (e, live, o, n) = K.in_blocks j l h in copy_off e live a (omega arith) (omega arith);
     };
-    old-key = λ h. old h place;
+    old_key = λ h. old h place;
     new-key = λ _. ap (λ (e : Entry). e.key) (upd_same w.entry i x);
   }
     where

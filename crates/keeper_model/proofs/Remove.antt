@@ -92,7 +92,7 @@ module _ (w : Store) (S : Sound w) (key i : ℕ) (h : Holder w key i) where
     places = refl;
     others = there;
     bytes = λ j d f. record { entry = there j d; bytes = λ a u v. refl };
-    old-key = λ _. h.2;
+    old_key = λ _. h.2;
     new-key = λ l. absurd (gone i refl l);
   }
 

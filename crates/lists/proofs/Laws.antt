@@ -1,5 +1,5 @@
 -- Unlink, push front and replace in place change one list and leave the nine others, and nothing but next, previous and first pages.
-use mathlib.Core.Path.{◌≡◌, refl, sym, ap, ◌∙◌}
+use mathlib.Core.Path.{◌≡◌, refl, sym, ap, ◌∙◌, subst}
 use mathlib.Core.Logic.{◌⊎◌, inl, inr, ◌≢◌}
 use mathlib.Core.List.{List, [], ◌∷◌}
 use Prim.Native.Nat.{ℕ, ◌+◌, ◌-◌, ◌≤◌, ◌<◌}
@@ -151,7 +151,7 @@ module _ (I : Image) (list : ℕ) (xs : List ℕ) (once : NoDup xs) (pages : (q 
 
   -- the pages around a page of the list
   prev-is : (p : ℕ) → Mem p xs → Mem (prev_of I p) (no_page ∷ xs)
-  prev-is p m = rw (K.prevs p m) (prev_on no_page no_page p xs m)
+  prev-is p m = subst (λ (x : ℕ). Mem x (no_page ∷ xs)) (sym (K.prevs p m)) (prev_on no_page no_page p xs m)
 
   prev-most : (p : ℕ) → Mem p xs → prev_of I p ≤ no_page
   prev-most p m = go (prev-is p m)
@@ -310,7 +310,9 @@ module _ (I : Image) (list : ℕ) (xs : List ℕ) (once : NoDup xs) (pages : (q 
         go : (prev_of I p ≡ no_page) ⊎ (prev_of I p ≢ no_page) → Mem (prev_of I p) (no_page ∷ xs) → Mem (node no_page (head list) (prev_of I p)) (head list ∷ xs)
         go (inl e) k = rw (eq-eqb (prev_of I p) no_page e) (inl refl)
         go (inr e) (inl k) = absurd (e k)
-        go (inr e) (inr k) = rw (ne_eqb (prev_of I p) no_page e) (inr k)
+        go (inr e) (inr k) =
+            let q : node no_page (head list) (prev_of I p) ≡ prev_of I p = rw (ne_eqb (prev_of I p) no_page e) refl in
+            subst (λ (x : ℕ). Mem x (head list ∷ xs)) (sym q) (inr k)
 
     pub unlink-others : (p : ℕ) → Mem p xs → Listed (unlink I list (I.links p)) other ys
     unfolding unlink
@@ -345,7 +347,7 @@ module _ (I : Image) (list : ℕ) (xs : List ℕ) (once : NoDup xs) (pages : (q 
 -- ---- nothing but next, previous and first pages changes
 
 pub record Relinked (I J : Image) : Type 0 where
-  pub same_free_pages : J.free_pages ≡ I.free_pages
+  pub free_pages : J.free_pages ≡ I.free_pages
   pub map : J.map ≡ I.map
   pub class : (c : ℕ) → J.class c ≡ first_to (I.class c) (J.class c).first.0
   pub links : (q : ℕ) → J.links q ≡ between (I.links q) (prev_of J q) (J.links q).next.0
@@ -360,11 +362,11 @@ relinked_first I list p = go (eq? list 0)
     class c (inr e) = rw (upd_other I.class (list - 1) (first_to (I.class (list - 1)) p) c e)
 
     go : (list ≡ 0) ⊎ (list ≢ 0) → Relinked I (put_first I list p)
-    go (inl e) = rw (eq-eqb list 0 e) (record { same_free_pages = refl; map = refl; class = λ c. refl; links = λ q. refl })
-    go (inr e) = rw (ne_eqb list 0 e) (record { same_free_pages = refl; map = refl; class = λ c. class c (eq? c (list - 1)); links = λ q. refl })
+    go (inl e) = rw (eq-eqb list 0 e) (record { free_pages = refl; map = refl; class = λ c. refl; links = λ q. refl })
+    go (inr e) = rw (ne_eqb list 0 e) (record { free_pages = refl; map = refl; class = λ c. class c (eq? c (list - 1)); links = λ q. refl })
 
 relinked_links : (I : Image) (p : ℕ) (l : Links) → l ≡ between (I.links p) l.prev.0 l.next.0 → Relinked I (set_links I p l)
-relinked_links I p l e = record { same_free_pages = refl; map = refl; class = λ c. refl; links = λ q. go q (eq? q p) }
+relinked_links I p l e = record { free_pages = refl; map = refl; class = λ c. refl; links = λ q. go q (eq? q p) }
   where
     go : (q : ℕ) → (q ≡ p) ⊎ (q ≢ p) → upd I.links p l q ≡ between (I.links q) (upd I.links p l q).prev.0 (upd I.links p l q).next.0
     go q (inl d) = rw (d, upd_same I.links p l) e
@@ -372,7 +374,7 @@ relinked_links I p l e = record { same_free_pages = refl; map = refl; class = λ
 
 relinked_both : {I J K : Image} → Relinked I J → Relinked J K → Relinked I K
 relinked_both {I} {J} {K} A B = record {
-  same_free_pages = B.same_free_pages ∙ A.same_free_pages;
+  free_pages = B.free_pages ∙ A.free_pages;
   map = B.map ∙ A.map;
   class = λ c. B.class c ∙ rw (A.class c);
   links = λ q. B.links q ∙ rw (A.links q);

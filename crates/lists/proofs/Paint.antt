@@ -63,7 +63,7 @@ module _ (w P : ℕ) (wide : 2 ≤ w) (narrow : w ≤ 255) (top : P ≤ no_page)
         go : (list ≡ 0) ⊎ (list ≢ 0) → first_of w (paint w P I s) list ≡ first_in I list
         go (inl e) =
             rw (eq-eqb list 0 e)
-            (ap (λ (x : Header). x.first_run.0) (header_shown w P wide I s room (header_fits w P _ _ narrow (omega arith) F.same_free_pages F.first_run)))
+            (ap (λ (x : Header). x.first_run.0) (header_shown w P wide I s room (header_fits w P _ _ narrow (omega arith) F.free_pages F.first_run)))
         go (inr e) =
             rw (ne_eqb list 0 e)
             (ap (λ (x : ClassRecord). x.first.0) (class-shown w P wide I s room (list - 1) (omega arith) (F.class (list - 1) (omega arith))))
@@ -74,7 +74,7 @@ module _ (w P : ℕ) (wide : 2 ≤ w) (narrow : w ≤ 255) (top : P ≤ no_page)
       where
         go : (list ≡ 0) ⊎ (list ≢ 0) → with_first w (paint w P I s) list p ≡ paint w P (put_first I list p) s
         go (inl e) =
-            rw (eq-eqb list 0 e, header_shown w P wide I s room (header_fits w P _ _ narrow (omega arith) F.same_free_pages F.first_run))
+            rw (eq-eqb list 0 e, header_shown w P wide I s room (header_fits w P _ _ narrow (omega arith) F.free_pages F.first_run))
             (header_paint w P wide I s I.free_pages p)
         go (inr e) =
             rw (ne_eqb list 0 e, class-shown w P wide I s room (list - 1) (omega arith) (F.class (list - 1) (omega arith)))
@@ -92,7 +92,7 @@ module _ (w P : ℕ) (wide : 2 ≤ w) (narrow : w ≤ 255) (top : P ≤ no_page)
     prev-paint {I} F p v (inl e) =
         rw (eq-eqb p no_page e)
         (paint_ext w P I (put_prev I p v) s (record {
-          same_free_pages = refl;
+          free_pages = refl;
           first_run = refl;
           class = λ c l. refl;
           map = λ q l. refl;

@@ -12,7 +12,7 @@ use records::{CLASS_PAGE, FIRST_FREE, FIRST_TAKEN, Links, PAGE, PageNumber};
 
 // A chunk by its number in a page of its class. The number is wide so that `Found` is: of 16 bytes or fewer, an enum is passed as one
 // integer, and its fields are shifted in and out.
-#[derive(Drop)]
+#[derive(Clone, Copy)]
 pub struct ChunkAt {
     pub page: PageNumber,
     pub class: u8,
@@ -20,13 +20,13 @@ pub struct ChunkAt {
 }
 
 // A taken run by its first page, and its length.
-#[derive(Drop)]
+#[derive(Clone, Copy)]
 pub struct RunAt {
     pub page: PageNumber,
     pub pages: u16,
 }
 
-#[derive(Drop)]
+#[derive(Clone, Copy)]
 pub enum Found {
     Chunk(ChunkAt),
     Run(RunAt),

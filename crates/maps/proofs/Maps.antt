@@ -39,6 +39,7 @@ map_bytes-at m (suc n) j h = go (eq? j n) (map_bytes-at m n j)
     go : (j ≡ n) ⊎ (j ≢ n) → (j < n → get_or (map_bytes m n) j 0 ≡ bits_of (λ i. m (8 * j + i)) 8) → get_or (map_bytes m n ++ (b ∷ [])) j 0 ≡ bits_of (λ i. m (8 * j + i)) 8
     go (inl p) ih = rw p (get_or_at (map_bytes m n) b [] 0 n (length-map_bytes m n))
     go (inr d) ih = get_or-append (map_bytes m n) (b ∷ []) 0 j (omega (arith, length-map_bytes m n)) ∙ ih (omega arith)
+map_bytes-at m zero j h = elim h [ ]
 
 pub map_bytes-bytes : (m : ℕ → Bool) (n : ℕ) → Bytes (map_bytes m n)
 map_bytes-bytes m n j = ⊎_elim

@@ -133,13 +133,13 @@ module _ (w : ℕ) (s t : List ℕ) where
   other_length d = (rw (ne_eqb _ _ d), rw (ne_eqb _ _ d))
 
   module _ (l : length s ≡ length t) (u : Bool) (e : u ≡ shaped w s) where
-    pub beyond : not u ≡ true → (refused BeyondMending ≡ mend_outcome w s t) × (t ≡ mended w s t)
+    pub beyond : u ≡ false → (refused BeyondMending ≡ mend_outcome w s t) × (t ≡ mended w s t)
     unfolding mend_outcome mended pick
-    beyond f = let z : shaped w s ≡ false = sym e ∙ not-true u f in (rw (eq-eqb _ _ l, z), rw (eq-eqb _ _ l, z))
+    beyond f = let z : shaped w s ≡ false = sym e ∙ f in (rw (eq-eqb _ _ l, z), rw (eq-eqb _ _ l, z))
 
-    pub all-written : 2 ≤ w → w ≤ 255 → Bytes s → not u ≡ false → (n : ℕ) → n ≡ pages_in w s → (v : List ℕ) → v ≡ written w s n →
+    pub all-written : 2 ≤ w → w ≤ 255 → Bytes s → u ≡ true → (n : ℕ) → n ≡ pages_in w s → (v : List ℕ) → v ≡ written w s n →
         (granted n ≡ mend_outcome w s t) × (v ≡ mended w s t)
     unfolding mend_outcome mended pick
     all-written wide narrow B f n p v z =
-        let y : shaped w s ≡ true = sym e ∙ not-false u f in
+        let y : shaped w s ≡ true = sym e ∙ f in
         (rw (eq-eqb _ _ l, y, p), rw (eq-eqb _ _ l, y) (z ∙ ap (written w s) p ∙ sym (copy_written w wide narrow s B y)))

@@ -27,8 +27,8 @@ unfolding SamePages
 whole w s = record {
   lengths = refl;
   edition = refl;
-  same_min_shift = refl;
-  same_page_shift = refl;
+  min_shift = refl;
+  page_shift = refl;
   page_count = refl;
   kinds = λ p h. refl;
   classes = λ p h. refl;

@@ -281,7 +281,7 @@ module _ (v : Fields) (n : ℕ) (S : Shape v n) (B : Bounds v n) (W : WellFormed
   pub image_anew_lem : Same n (state_image m) (image_anew v n)
   unfolding state_image image_anew class_anew page_anew remade
   image_anew_lem = record {
-    same_free_pages = refl;
+    free_pages = refl;
     first_run = ap (head_or no_page) heads ∙ first_of (is_head v n) 0 n;
     class = λ c h. λ i. record {
       first = record { 0 = first c i };

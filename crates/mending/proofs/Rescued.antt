@@ -49,8 +49,8 @@ module _ (w : ℕ) (wide : 2 ≤ w) (narrow : w ≤ 255) (s : List ℕ) (B : Byt
     some = omega (arith, new_one.some, L.lengths);
     few = omega (arith, new_one.few, alike);
     edition = L.edition ∙ new_one.edition;
-    same_min_shift = L.same_min_shift ∙ new_one.same_min_shift;
-    same_page_shift = L.same_page_shift ∙ new_one.same_page_shift;
+    min_shift = L.min_shift ∙ new_one.min_shift;
+    page_shift = L.page_shift ∙ new_one.page_shift;
     pages = L.page_count ∙ new_one.pages ∙ alike;
   }
 

@@ -52,8 +52,8 @@ ShapeOnly = (n : ℕ) (v u : Fields) → SameShape n v u → (shape v n ≡ shap
 pub record LinksLost (w : ℕ) (s t : List ℕ) : Type 0 where
   pub lengths : length s ≡ length t
   pub edition : (header_at s).edition ≡ (header_at t).edition
-  pub same_min_shift : (header_at s).min_shift ≡ (header_at t).min_shift
-  pub same_page_shift : (header_at s).page_shift ≡ (header_at t).page_shift
+  pub min_shift : (header_at s).min_shift ≡ (header_at t).min_shift
+  pub page_shift : (header_at s).page_shift ≡ (header_at t).page_shift
   pub page_count : (header_at s).pages ≡ (header_at t).pages
   pub kinds : (p : ℕ) → p < pages_in w s → kind (fields_of w s) p ≡ kind (fields_of w t) p
   pub classes : (p : ℕ) → p < pages_in w s → class (fields_of w s) p ≡ class (fields_of w t) p

@@ -5,7 +5,7 @@ use mathlib.Core.List.{List}
 use Prim.Native.Nat.{ℕ, ◌-◌, ◌*◌, ◌/◌, ◌%◌}
 use native.Mathlib.Omega.{arith}
 use Rattle.model.specs.Classes.{chunk, Need, nothing, chunk_of, pages, need_of}
-use Rattle.model.specs.State.{Page, slab, taken, State}
+use Rattle.model.specs.State.{Page, slab, taken, State, edge, inside, idle}
 use Rattle.model.specs.WellFormed.{WellFormed}
 use Rattle.model.specs.Calls.{Alloc, Free, freed, fresh, free_at, free, step}
 use Rattle.model.specs.Live.{Block, offset, extent, On, Live, blocks, block_for, LiveSet}
@@ -77,6 +77,9 @@ freed_on s e p (slab c m) (i, q, o, l, t) =
 freed_on s e p (taken n) q =
     let z : offset e - 4096 * p ≡ 0 = omega (arith, ap offset q) in
     rw z (ap freed (sym (ap extent q)))
+freed_on s e p edge q = elim q [ ]
+freed_on s e p inside q = elim q [ ]
+freed_on s e p idle q = elim q [ ]
 
 pub live-freed : LiveFreed
 unfolding step free Live

@@ -6,7 +6,7 @@ use native.Mathlib.Nat.{mul-le-mul_left}
 use native.Mathlib.Omega.{arith}
 use Rattle.base.proofs.Cases.{never, eq?, lt?}
 use Rattle.model.specs.Classes.{chunk}
-use Rattle.model.specs.State.{Page, slab, taken, inside}
+use Rattle.model.specs.State.{Page, slab, taken, inside, edge, idle}
 use Rattle.model.specs.WellFormed.{PageOk, TableOk}
 use Rattle.model.specs.Calls.{fresh}
 use Rattle.model.specs.Live.{Block, small, offset, extent, Disjoint, Off, On, Live}
@@ -22,12 +22,18 @@ on_page (slab c m) h p e (i, q, o, l, t) =
     let z : offset e ≡ 4096 * p + chunk c * i = ap offset q in
     (omega arith, omega (arith, chunk-pos c, chunk-ends c h.in_range i l))
 on_page (taken n) h p e q = let z : offset e ≡ 4096 * p = ap offset q in (omega arith, omega arith)
+on_page edge h p e q = elim q [ ]
+on_page inside h p e q = elim q [ ]
+on_page idle h p e q = elim q [ ]
 
 -- blocks on one page with one offset are one block
 pub on_same : (x : Page) (p : ℕ) (d e : Block) → On x p d → On x p e → offset d ≡ offset e → d ≡ e
 unfolding On
 on_same (slab c m) p d e (i, q, _, _, _) (j, r, _, _, _) h = q ∙ ap (λ (z : ℕ). small z c) (sym (ap offset q) ∙ h ∙ ap offset r) ∙ sym r
 on_same (taken n) p d e q r h = q ∙ sym r
+on_same edge p d e q r h = elim q [ ]
+on_same inside p d e q r h = elim q [ ]
+on_same idle p d e q r h = elim q [ ]
 
 module _ {size : ℕ} {f : ℕ → Page} (ok : TableOk size f) where
   pub live_same : (d e : Block) → Live f d → Live f e → offset d ≡ offset e → d ≡ e
@@ -64,7 +70,7 @@ spans {size} {f} ok q e x = go (f q) refl (ok.each q) x
         high =
             let z : offset e ≡ 4096 * q + chunk c * i = ap offset p in
             let y : extent e ≡ chunk c = ap extent p in
-            omega (arith, chunk-ends c w.in-range i l);
+            omega (arith, chunk-ends c w.in_range i l);
         covered = λ j a b. inl (omega arith);
       },
     )
@@ -80,6 +86,9 @@ spans {size} {f} ok q e x = go (f q) refl (ok.each q) x
         covered = λ j a b. near j n h a b (eq? j q);
       },
     )
+    go edge h w p = elim p [ ]
+    go inside h w p = elim p [ ]
+    go idle h w p = elim p [ ]
 
 -- two chunks of one page
 pub chunks_apart : (c p i j : ℕ) → i ≢ j → Disjoint (small (4096 * p + chunk c * i) c) (small (4096 * p + chunk c * j) c)
@@ -109,6 +118,8 @@ unfolding On
 on_start (slab c m) p e o z = never (cc)
 on_start (taken n) p e o z = never (cc)
 on_start inside p e o z = o
+on_start edge p e o z = elim o [ ]
+on_start idle p e o z = elim o [ ]
 
 -- two blocks on one page
 on_apart : (x : Page) (p : ℕ) (d e : Block) → On x p d → On x p e → d ≢ e → Disjoint d e
@@ -116,6 +127,9 @@ unfolding On
 on_apart (slab c m) p d e (i, q, o, l, t) (j, r, u, v, w) n =
     rw (q, r) (chunks_apart c p i j (λ z. n (q ∙ ap (λ (k : ℕ). small (4096 * p + chunk c * k) c) z ∙ sym r)))
 on_apart (taken k) p d e q r n = absurd (n (q ∙ sym r))
+on_apart edge p d e q r n = elim q [ ]
+on_apart inside p d e q r n = elim q [ ]
+on_apart idle p d e q r n = elim q [ ]
 
 -- two live blocks
 module _ {size : ℕ} {f : ℕ → Page} (ok : TableOk size f) where

@@ -110,6 +110,9 @@ class_on c p (slab d m) e (i, r, o, l, t) k =
     let q : d ≡ c = eqb-true d c k' in
     (m, i, ap (λ (z : ℕ). slab z m) q, rw q at o, rw q at l, t, rw q at (ap offset r))
 class_on c p (taken n) e r k = let k' : ◌≡◌ {A = Bool} false true = rw r at k in absurd (never (cc))
+class_on c p edge e r k = elim r [ ]
+class_on c p inside e r k = elim r [ ]
+class_on c p idle e r k = elim r [ ]
 
 module _ {B : List Block} (s : State) (wf : WellFormed s) (set : LiveSet B s.page) (c : ℕ) where
   -- a chunk is marked where a block of the class begins

@@ -78,6 +78,7 @@ module _ (s : State) (wf : WellFormed s) (c : ℕ) (c-ok : c ≤ 8) (empty : s.l
 
       holds : (j : ℕ) → Mem j (r.start ∷ []) → is_open c (page' j) ≡ true
       holds j (inl p) = rw (p, head) (open_slab c (new_marks c) ∙ new_clear c c-ok)
+      holds j (inr x') = elim x' [ ]
 
       all : (j : ℕ) → is_open c (page' j) ≡ true → (j ≡ r.start) ⊎ (j ≢ r.start) → Mem j (r.start ∷ [])
       all j e (inl p) = inl p

@@ -66,3 +66,4 @@ module _ (P : ℕ) where
         low_end = λ j a. absurd (omega arith);
         high_end = λ j a. rw (le-ltb j P (omega arith));
       })
+      sound r (inr x') = elim x' [ ]

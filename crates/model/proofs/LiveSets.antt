@@ -31,6 +31,7 @@ rising-from a b (e ∷ B) l r = (omega (arith, r.0), r.1)
 rising-low : (a : ℕ) (B : List Block) → Rising a B → (e : Block) → Mem e B → a ≤ offset e
 rising-low a (d ∷ B) r e (inl q) = rw q r.0
 rising-low a (d ∷ B) r e (inr m) = omega (arith, r.0, rising-low (offset d + 1) B r.1 e m)
+rising-low a [] r e x'' = elim x'' [ ]
 
 rising-once : (a : ℕ) (B : List Block) → Rising a B → NoDup B
 rising-once a [] r = tt
@@ -55,6 +56,8 @@ module _ (c p : ℕ) (m : ℕ → Bool) where
     where
       go : (t : Bool) → leb (own c) i && m i ≡ t → Mem e (cond t (small (4096 * p + chunk c * i) c ∷ []) []) → At (suc i) e
       go true d (inl q) = let (a, b) = and_true (leb (own c) i) (m i) d in (i, q, leb-true (own c) i a, omega arith, b)
+      go true d (inr x4) = elim x4 [ ]
+      go false d x'' = elim x'' [ ]
 
   chunks-at : (n : ℕ) (e : Block) → Mem e (chunks_on c p m n) → At n e
   unfolding chunks_on
@@ -91,11 +94,18 @@ blocks_on_lem : (x : Page) (p : ℕ) (e : Block) → Mem e (blocks_on x p) → O
 unfolding On
 blocks_on_lem (slab c m) p e x = chunks-at c p m (chunks c) e x
 blocks_on_lem (taken n) p e (inl q) = q
+blocks_on_lem edge p e x = elim x [ ]
+blocks_on_lem inside p e x = elim x [ ]
+blocks_on_lem (taken n) p e (inr x4) = elim x4 [ ]
+blocks_on_lem idle p e x = elim x [ ]
 
 on_blocks : (x : Page) (p : ℕ) (e : Block) → On x p e → Mem e (blocks_on x p)
 unfolding On
 on_blocks (slab c m) p e (i, q, o, l, t) = at-chunks c p m (chunks c) e i q o l t
 on_blocks (taken n) p e o = inl o
+on_blocks edge p e o = elim o [ ]
+on_blocks inside p e o = elim o [ ]
+on_blocks idle p e o = elim o [ ]
 
 on_rise : (x : Page) (p : ℕ) → Rising (4096 * p) (blocks_on x p)
 on_rise idle p = tt
@@ -175,6 +185,8 @@ noted-set B f f' (Alloc n) (at off) set x = noted_add set x
 noted-set B f f' (Alloc n) (no k) set x = rw x set
 noted-set B f f' (Free off) (freed k) set x = noted_strike set x
 noted-set B f f' (Free off) (no k) set x = rw x set
+noted-set B f f' (Free off) (at _) set x = elim x [ ]
+noted-set B f f' (Alloc n) (freed k) set x = elim x [ ]
 
 pub noted-apart : {size : ℕ} (B : List Block) (f f' : ℕ → Page) (call : Call) (a : Answer) → TableOk size f' → LiveSet B f → Effect call f a f' → NoOverlap B call a
 unfolding NoOverlap Effect AllocEffect FreeEffect
@@ -183,3 +195,5 @@ noted-apart B f f' (Alloc n) (at off) ok set x =
 noted-apart B f f' (Alloc n) (no k) ok set x = tt
 noted-apart B f f' (Free off) (freed k) ok set x = tt
 noted-apart B f f' (Free off) (no k) ok set x = tt
+noted-apart {size = size} B f f' (Free off) (at _) ok set x = elim x [ ]
+noted-apart {size = size} B f f' (Alloc n) (freed k) ok set x = elim x [ ]

@@ -7,7 +7,7 @@ use native.Mathlib.Nat.{mul-le-mul_left}
 use native.Mathlib.Omega.{arith}
 use Rattle.base.proofs.Cases.{never, eq?}
 use Rattle.model.specs.Classes.{chunk, own}
-use Rattle.model.specs.State.{Page, idle, slab, taken, inside, State}
+use Rattle.model.specs.State.{Page, idle, slab, taken, inside, State, edge}
 use Rattle.model.specs.WellFormed.{ClassOk, TableOk, WellFormed}
 use Rattle.model.specs.Calls.{step}
 use Rattle.model.specs.Live.{Block, offset, extent, Off, On, Live}
@@ -96,6 +96,15 @@ module _ {size size' : ℕ} {f f' : ℕ → Page} (ok : TableOk size f) (ok' : T
       same j z u (inr a) l = ok'.inner p k j h' (omega arith) (omega arith) ∙ sym (ok.inner p n j h (omega arith) u)
   both_stay e p (slab c m) (taken k) h h' (i, q, o, l, t) r = absurd (never (cc))
   both_stay e p (taken n) (slab d k) h h' q (j, r, u, v, w) = absurd (never (cc))
+  both_stay e p edge y h h' q r = elim q [ ]
+  both_stay e p inside y h h' q r = elim q [ ]
+  both_stay e p (taken n) edge h h' q r = elim r [ ]
+  both_stay e p (taken n) inside h h' q r = elim r [ ]
+  both_stay e p (taken n) idle h h' q r = elim r [ ]
+  both_stay e p (slab c m) edge h h' q r = elim r [ ]
+  both_stay e p (slab c m) inside h h' q r = elim r [ ]
+  both_stay e p (slab c m) idle h h' q r = elim r [ ]
+  both_stay e p idle y h h' q r = elim q [ ]
 
   live-stays : (e : Block) → Live f e → Live f' e → Stays f f' e
   unfolding Live

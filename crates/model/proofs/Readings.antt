@@ -56,6 +56,9 @@ large_on : (x : Page) (q off n : ℕ) → On x q (large off n) → (off ≡ 4096
 unfolding On
 large_on (slab c m) q off n (i, z, o, l, t) = absurd (never (cc))
 large_on (taken k) q off n z = (cc, let y : k ≡ n = cc in ap taken y)
+large_on edge q off n z = elim z [ ]
+large_on inside q off n z = elim z [ ]
+large_on idle q off n z = elim z [ ]
 
 module _ {B : List Block} (s : State) (wf : WellFormed s) (set : LiveSet B s.page) where
   class-read : (p c : ℕ) → (kind_at B p ≡ class c) ↔ ((off : ℕ) × Mem (small off c) B × (off / 4096 ≡ p))

@@ -29,10 +29,10 @@ module _ (s : State) (wf : WellFormed s) where
       go : (t : Bool) → is_idle (s.page a) ≡ t → (j : ℕ) × (j < k) × (s.page (a + j) ≢ idle)
       go false d = (0, omega arith, λ z. let y : a + 0 ≡ a = omega arith in clash (rw (rw y at z)) d)
       go true d =
-          let (x, m, l, u) = wf.free-runs.covers a d in (
+          let (x, m, l, u) = wf.free_runs.covers a d in (
             x.start + x.len - a,
             omega (arith, fit_none k s.runs e x m),
-            λ z. clash (rw z) ((wf.free-runs.sound x m).high_end (a + (x.start + x.len - a)) (omega arith)),
+            λ z. clash (rw z) ((wf.free_runs.sound x m).high_end (a + (x.start + x.len - a)) (omega arith)),
           )
 
   pages-refused : (k : ℕ) → 1 ≤ k → (o : Option Run) → fit k s.runs ≡ o →
@@ -51,7 +51,7 @@ module _ (s : State) (wf : WellFormed s) where
       none_left : fit 1 s.runs ≡ none → NoChunk s c
       none_left z = record {
         none_clear = λ p. decided (is_open c (s.page p)) (λ t. rw e at (wf.class-lists.all c p t));
-        none_free = λ p t. let (x, m, l, u) = wf.free-runs.covers p (rw t) in omega (arith, fit_none 1 s.runs z x m);
+        none_free = λ p t. let (x, m, l, u) = wf.free_runs.covers p (rw t) in omega (arith, fit_none 1 s.runs z x m);
       }
 
       cut : (o : Option Run) → fit 1 s.runs ≡ o → ((cut_page s c o).answer ≡ no no_room) ↔ NoChunk s c

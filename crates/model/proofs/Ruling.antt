@@ -83,7 +83,7 @@ module _ (s : State) (wf : WellFormed s) where
       none_seen t =
           let (p, l, z) = any_some (λ p. is_vacant (kind_of (s.page p))) s.size t in
           let h : s.page p ≡ idle = vacant-is (s.page p) z (λ d. omega (arith, wf.table.ends p d)) in
-          let (x, m, a, b) = wf.free-runs.covers p (rw h) in
+          let (x, m, a, b) = wf.free_runs.covers p (rw h) in
           omega (arith, fit_none 1 s.runs e x m)
 
   run-seen : (k : ℕ) (r : Run) → fit k s.runs ≡ some r → 1 ≤ k → run_in (shown s) k ≡ true

@@ -72,6 +72,7 @@ fit_none k (y ∷ ys) e x m = go (leb k y.len) refl e (fit_none k ys) m
     go true d e ih m = absurd (never (cc))
     go false d e ih (inl q) = rw q (leb-false k y.len d)
     go false d e ih (inr m) = ih e x m
+fit_none k [] e x m = elim m [ ]
 
 -- ---- pages taken from the front of a run
 
@@ -85,6 +86,8 @@ cut-mem k r x = go (ltb k r.len) refl
   where
     go : (t : Bool) → ltb k r.len ≡ t → Mem x (cond t (remains k r ∷ []) []) → (x ≡ remains k r) × (k < r.len)
     go true e (inl p) = (p, ltb-true _ _ e)
+    go true e (inr x5) = elim x5 [ ]
+    go false e x3 = elim x3 [ ]
 
 pub mem-cut : (k : ℕ) (r : Run) → k < r.len → Mem (remains k r) (cut_front k r)
 unfolding cut_front
@@ -110,6 +113,7 @@ carve-from k (y ∷ ys) r x e d m = go (leb k y.len) (carve-from k ys r x) e d m
         side : Mem x (cut_front k r) ⊎ (Mem x ys × (x ≢ r)) → Mem x (cut_front k r) ⊎ (Mem x (y ∷ ys) × (x ≢ r))
         side (inl n) = inl n
         side (inr n) = inr (inr n.0, n.1)
+carve-from k [] r x e d m = elim m [ ]
 
 -- every other run, and what is left of r, is in the new list
 pub carve-rest : (k : ℕ) (rs : List Run) (r x : Run) → fit k rs ≡ some r → Mem x (cut_front k r) → Mem x (carve k rs)
@@ -134,6 +138,7 @@ carve-keeps k (y ∷ ys) r x e m = go (leb k y.len) (carve-keeps k ys r x) e m
         side : (x ≡ r) ⊎ Mem x (carve k ys) → (x ≡ r) ⊎ Mem x (y ∷ carve k ys)
         side (inl p) = inl p
         side (inr n) = inr (inr n)
+carve-keeps k [] r x e m = elim m [ ]
 
 pub carve-once : (k : ℕ) (rs : List Run) (r : Run) → fit k rs ≡ some r → NoDup rs → ((x : Run) → Mem x (cut_front k r) → ¬ Mem x rs) → NoDup (carve k rs)
 unfolding cut_front

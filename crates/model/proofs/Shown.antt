@@ -132,6 +132,9 @@ module _ {B : List Block} (s : State) (wf : WellFormed s) (set : LiveSet B s.pag
           let w : q ≡ p = omega (arith, small-covers (4096 * q + chunk d * i) d p (rw r at c), ap offset r) in
           rw (r, ← w, h)
       go q (taken n) h r l u = let (x, y) = large-covers q n p (rw r at c) in rw r (near q n h x y (eq? q p))
+      go q edge h r l u = elim r [ ]
+      go q inside h r l u = elim r [ ]
+      go q idle h r l u = elim r [ ]
 
   -- a block begins in every class page
   pub slab_held : (p c : ℕ) (m : ℕ → Bool) → s.page p ≡ slab c m → (off : ℕ) × Mem (small off c) B × (off / 4096 ≡ p)

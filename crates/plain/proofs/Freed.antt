@@ -52,7 +52,7 @@ module _ (s : Plain) (b : List ℕ) (sh : Shaped s b) (wf : WellFormed (read_pla
   free_chunk_lem = go (starts_chunk c q) refl (m i) refl (has_taken c (upd m i false)) refl
     where
       cleared : i < chunks c → mark_of (with_byte b p i 0) p c ≡ upd m i false
-      cleared h = marked_one b sh.bytes p page.in-pool i 0 c h
+      cleared h = marked_one b sh.bytes p page.in_pool i 0 c h
 
       go : (x : Bool) → starts_chunk c q ≡ x → (y : Bool) → m i ≡ y → (z : Bool) → has_taken c (upd m i false) ≡ z
           → Meets free_answer (free_chunk_at s b p c q) (free_chunk_bytes b p c q) (free_at (read_plain s b) p q (slab c m))

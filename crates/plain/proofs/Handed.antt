@@ -4,7 +4,7 @@ use mathlib.Core.Logic.{◌⊎◌, inl, inr, ◌≢◌}
 use mathlib.Core.Bool.{Bool, true, false, cond, not}
 use mathlib.Core.Option.{some}
 use mathlib.Core.List.{List, [], ◌∷◌}
-use Prim.Native.Nat.{ℕ, ◌+◌, ◌-◌, ◌≤◌, ◌<◌}
+use Prim.Native.Nat.{ℕ, ◌+◌, ◌≤◌, ◌<◌}
 use native.Mathlib.Omega.{arith}
 use lib.Dec.{eqb}
 use lib.ListN.{length, get_or}
@@ -61,10 +61,10 @@ module _ (s : Plain) (b : List ℕ) (sh : Shaped s b) (p c : ℕ) (is : ClassPag
       go : (j ≡ p) ⊎ (j ≢ p) → page_at t (with_byte b p i v) j ≡ upd (page_at s b) p (slab c (upd (mark_of b p c) i (not (eqb v 0)))) j
       go (inl d) =
           rw d
-          (class-shown t (with_byte b p i v) p c is.in-pool (ap (λ (x : PageEntry). x.kind) (same p) ∙ is.kind) (ap (λ (x : PageEntry). x.class) (same p) ∙ is.class)
-          ∙ rw (marked_one b sh.bytes p is.in-pool i v c in_page, upd_same (page_at s b) p (slab c (upd (mark_of b p c) i (not (eqb v 0))))))
+          (class-shown t (with_byte b p i v) p c is.in_pool (ap (λ (x : PageEntry). x.kind) (same p) ∙ is.kind) (ap (λ (x : PageEntry). x.class) (same p) ∙ is.class)
+          ∙ rw (marked_one b sh.bytes p is.in_pool i v c in_page, upd_same (page_at s b) p (slab c (upd (mark_of b p c) i (not (eqb v 0))))))
       go (inr d) =
-          page-alike s t b (with_byte b p i v) j (same j) (λ l q. marked_other b sh.bytes p is.in-pool i v (omega (arith, chunks-most c)) j q d)
+          page-alike s t b (with_byte b p i v) j (same j) (λ l q. marked_other b sh.bytes p is.in_pool i v (omega (arith, chunks-most c)) j q d)
           ∙ sym (upd_other (page_at s b) p (slab c (upd (mark_of b p c) i (not (eqb v 0)))) j d)
 
 -- ---- a chunk handed out
@@ -87,7 +87,7 @@ module _ (s : Plain) (b : List ℕ) (sh : Shaped s b) (wf : WellFormed (read_pla
 
   in_range : c ≤ 8
   unfolding read_plain
-  in_range = (slab_ok wf.table (class-shown s b p c page.in-pool page.kind page.class)).in_range
+  in_range = (slab_ok wf.table (class-shown s b p c page.in_pool page.kind page.class)).in_range
 
   not_twice : ¬ Mem p rest
   unfolding read_plain

@@ -3,7 +3,7 @@ use mathlib.Core.Path.{◌≡◌, refl, sym, ap}
 use mathlib.Core.Logic.{◌⊎◌, inl, inr, ◌≢◌}
 use mathlib.Core.Bool.{Bool, true, false}
 use mathlib.Core.List.{List, [], ◌∷◌}
-use Prim.Native.Nat.{ℕ, suc, ◌+◌, ◌-◌, ◌≤◌, ◌<◌}
+use Prim.Native.Nat.{ℕ, suc, ◌+◌, ◌≤◌, ◌<◌}
 use native.Mathlib.Omega.{arith}
 use lib.ListN.{length}
 use Rattle.base.specs.Count.{sum, count}
@@ -36,6 +36,7 @@ starts (r ∷ rs) = r.start ∷ starts rs
 starts-mem : (x : ℕ) (rs : List Run) → Mem x (starts rs) → (r : Run) × Mem r rs × (r.start ≡ x)
 starts-mem x (r ∷ rs) (inl e) = (r, inl refl, sym e)
 starts-mem x (r ∷ rs) (inr m) = let (y, n, e) = starts-mem x rs m in (y, inr n, e)
+starts-mem x [] x'' = elim x'' [ ]
 
 starts-length : (rs : List Run) → length (starts rs) ≡ length rs
 starts-length [] = refl

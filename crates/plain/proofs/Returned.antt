@@ -3,7 +3,7 @@ use mathlib.Core.Path.{◌≡◌, refl, sym, ap, ◌∙◌, fun_ext}
 use mathlib.Core.Logic.{◌⊎◌, inl, inr, ◌≢◌}
 use mathlib.Core.Bool.{Bool, true, false, cond}
 use mathlib.Core.List.{List, ◌∷◌}
-use Prim.Native.Nat.{ℕ, ◌+◌, ◌-◌, ◌≤◌, ◌<◌}
+use Prim.Native.Nat.{ℕ, ◌+◌, ◌≤◌, ◌<◌}
 use native.Mathlib.Omega.{arith}
 use lib.Dec.{eqb}
 use lib.ListN.{get_or}
@@ -46,7 +46,7 @@ module _ (s : Plain) (b : List ℕ) (sh : Shaped s b) (wf : WellFormed (read_pla
   m = mark_of b p c
 
   shown : page_at s b p ≡ slab c m
-  shown = class-shown s b p c page.in-pool page.kind page.class
+  shown = class-shown s b p c page.in_pool page.kind page.class
 
   elsewhere : (d : ℕ) → d ≢ c → ¬ Mem p (list_of s d)
   elsewhere d n q = n (sym (on_list_lem s b wf d p q).0.class ∙ page.class)
@@ -58,7 +58,7 @@ module _ (s : Plain) (b : List ℕ) (sh : Shaped s b) (wf : WellFormed (read_pla
       clash (rw page.class at on) f
 
   head-listed : has_clear c m ≡ false → listed (listed_first p s.ready) ≡ p ∷ listed s.ready
-  head-listed f = listed_first_lem p s.ready page.in-pool (has_gap s.ready sh.ready (listed-once s b wf) p page.in-pool (full-off f))
+  head-listed f = listed_first_lem p s.ready page.in_pool (has_gap s.ready sh.ready (listed-once s b wf) p page.in_pool (full-off f))
 
   -- ---- the page stays a class page
 
@@ -106,11 +106,11 @@ module _ (s : Plain) (b : List ℕ) (sh : Shaped s b) (wf : WellFormed (read_pla
   not-idle j l u e = let d : j ≡ p = omega arith in never (cc (shown))
 
   fits : p + 1 ≤ 12
-  fits = let l : p < 12 = page.in-pool in omega arith
+  fits = let l : p < 12 = page.in_pool in omega arith
 
   drop-class : (j d : ℕ) → j ≢ p → Mem j (listed s.ready) → eqb (entry_at (page_dropped s p) j).class d ≡ eqb (entry_at s j).class d
   drop-class j d n h =
-      let l : j < 12 = (on_list_lem s b wf (entry_at s j).class j (on_own s b wf j h)).0.in-pool in
+      let l : j < 12 = (on_list_lem s b wf (entry_at s j).class j (on_own s b wf j h)).0.in_pool in
       ap (λ (x : PageEntry). eqb x.class d) (drop-entry j l n)
     where
       out : (j : ℕ) → j ≢ p → Out p 1 j
@@ -169,16 +169,16 @@ module _ (s : Plain) (b : List ℕ) (sh : Shaped s b) (wf : WellFormed (read_pla
       drop-entry : entry_at (page_dropped s p) p ≡ free_entry
       drop-entry =
           unfold page_dropped in unfold pages_freed in unfold entry_at in
-          freed-entry s b sh wf p 1 (omega arith) fits not-idle p page.in-pool (omega arith) (omega arith)
+          freed-entry s b sh wf p 1 (omega arith) fits not-idle p page.in_pool (omega arith) (omega arith)
 
       freed : (d : List ℕ) → page_at (page_dropped s p) d p ≡ idle
-      freed d = page_in (page_dropped s p) d p page.in-pool ∙ rw drop-entry (shows-free _)
+      freed d = page_in (page_dropped s p) d p page.in_pool ∙ rw drop-entry (shows-free _)
 
       drop-marks : (j : ℕ) → (j ≡ p) ⊎ (j ≢ p) → page_at (page_dropped s p) (with_byte b p i 0) j ≡ page_at (page_dropped s p) b j
       drop-marks j (inl e) = rw e (freed (with_byte b p i 0) ∙ sym (freed b))
       drop-marks j (inr n) =
           page-alike (page_dropped s p) (page_dropped s p) b (with_byte b p i 0) j refl
-          (λ l d. marked_other b sh.bytes p page.in-pool i 0 (omega (arith, chunks-most c)) j d n)
+          (λ l d. marked_other b sh.bytes p page.in_pool i 0 (omega (arith, chunks-most c)) j d n)
 
       drop_page_lem : (j : ℕ) → page_at (page_dropped s p) b j ≡ fill (page_at s b) p 1 idle j
       drop_page_lem j = page_same (pages_freed s p 1) (page_dropped s p) b j (unfold page_dropped in unfold pages_freed in unfold entry_at in refl) ∙ freed-page s b sh wf p 1 (omega arith) fits not-idle j

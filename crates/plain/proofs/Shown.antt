@@ -62,7 +62,7 @@ module _ (s : Plain) (b : List ℕ) (wf : WellFormed (read_plain s b)) where
   pub run_inside : (r : Run) → Mem r (read_runs s.runs) → r.start + r.len ≤ 12
   unfolding read_plain
   run_inside r m =
-      let st = wf.free-runs.sound r m in
+      let st = wf.free_runs.sound r m in
       let l : 1 ≤ r.len = st.some-page in
       let i : page_at s b (r.start + r.len - 1) ≡ idle = is_idle_lem (page_at s b (r.start + r.len - 1)) (st.all_free (r.start + r.len - 1) (omega arith) (omega arith)) in
       let h : r.start + r.len - 1 < 12 = in_table wf.table (r.start + r.len - 1) (λ e. never (cc)) in

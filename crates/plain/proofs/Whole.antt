@@ -2,9 +2,9 @@
 use mathlib.Core.Path.{◌≡◌, refl, ap, ◌∙◌}
 use mathlib.Core.Logic.{◌⊎◌, inl, inr}
 use mathlib.Core.Bool.{Bool, true, false}
-use mathlib.Core.Option.{none, some}
+use mathlib.Core.Option.{none}
 use mathlib.Core.List.{List, [], ◌∷◌}
-use Prim.Native.Nat.{ℕ, ◌+◌, ◌-◌, ◌*◌, ◌≤◌, ◌<◌}
+use Prim.Native.Nat.{ℕ, ◌+◌, ◌*◌, ◌≤◌, ◌<◌}
 use native.Mathlib.Omega.{arith}
 use native.Mathlib.Nat.{mod-eq_of_lt}
 use lib.Dec.{eqb, leb}
@@ -106,7 +106,7 @@ module _ (s : Plain) (b : List ℕ) (sh : Shaped s b) (wf : WellFormed (read_pla
           rw (le-ltb i 12 h, none_found s b sh 1 (omega arith) (rw is at h))
           (unfold cut_page in unfold refuse in unfold no_room in record { answers = refl; leaves = chunk_refused_lem s b sh c class })
 
-  pub alloc_chunk_lem : Meets alloc_answer (engine.alloc_chunk s b c (ready_page s c)) (engine.allocChunkBytes s b c (ready_page s c)) (alloc_chunk (read_plain s b) c (list_of s c))
+  pub alloc_chunk_lem : Meets alloc_answer (engine.alloc_chunk s b c (ready_page s c)) (engine.alloc_chunk_bytes s b c (ready_page s c)) (alloc_chunk (read_plain s b) c (list_of s c))
   alloc_chunk_lem = go (first-ready s c)
     where
       p : ℕ
@@ -119,7 +119,7 @@ module _ (s : Plain) (b : List ℕ) (sh : Shaped s b) (wf : WellFormed (read_pla
       page rest e = (on_list_lem s b wf c p (rw e (inl refl))).0
 
       marks : (rest : List ℕ) → list_of s c ≡ p ∷ rest → ◌≡◌ {A = ℕ → Bool} (marks_of ((read_plain s b).page p)) (mark_of b p c)
-      marks rest e = unfold read_plain in let P = page rest e in rw (class-shown s b p c P.in-pool P.kind P.class)
+      marks rest e = unfold read_plain in let P = page rest e in rw (class-shown s b p c P.in_pool P.kind P.class)
 
       first_model : (rest : List ℕ) → list_of s c ≡ p ∷ rest → alloc_chunk (read_plain s b) c (p ∷ rest) ≡ mark_chunk (read_plain s b) c p rest (mark_of b p c)
       first_model rest e = unfold alloc_chunk in ap (λ (m : ℕ → Bool). mark_chunk (read_plain s b) c p rest m) (marks rest e)
@@ -128,18 +128,18 @@ module _ (s : Plain) (b : List ℕ) (sh : Shaped s b) (wf : WellFormed (read_pla
       offset-is rest e =
           unfold chunk_offset in unfold mark_chunk in
           let l : lowest c (mark_of b p c) < chunks c = (lowest_clear_lem c (mark_of b p c) (on_list_lem s b wf c p (rw e (inl refl))).1).0 in
-          ap at (small (4096 * p + chunk c * lowest c (mark_of b p c)) (omega (arith, (page rest e).in-pool, chunk-ends c class (lowest c (mark_of b p c)) l)))
+          ap at (small (4096 * p + chunk c * lowest c (mark_of b p c)) (omega (arith, (page rest e).in_pool, chunk-ends c class (lowest c (mark_of b p c)) l)))
 
       set-mark : (rest : List ℕ) → list_of s c ≡ p ∷ rest → mark_of (with_byte b p (lowest c (mark_of b p c)) 1) p c ≡ upd (mark_of b p c) (lowest c (mark_of b p c)) true
       set-mark rest e =
-          marked_one b sh.bytes p (page rest e).in-pool (lowest c (mark_of b p c)) 1 c (lowest_clear_lem c (mark_of b p c) (on_list_lem s b wf c p (rw e (inl refl))).1).0
+          marked_one b sh.bytes p (page rest e).in_pool (lowest c (mark_of b p c)) 1 c (lowest_clear_lem c (mark_of b p c) (on_list_lem s b wf c p (rw e (inl refl))).1).0
 
-      go : First (ready_page s c) (list_of s c) → Meets alloc_answer (engine.alloc_chunk s b c (ready_page s c)) (engine.allocChunkBytes s b c (ready_page s c)) (alloc_chunk (read_plain s b) c (list_of s c))
+      go : First (ready_page s c) (list_of s c) → Meets alloc_answer (engine.alloc_chunk s b c (ready_page s c)) (engine.alloc_chunk_bytes s b c (ready_page s c)) (alloc_chunk (read_plain s b) c (list_of s c))
       go (is_none h e) =
-          unfold engine.alloc_chunk in unfold engine.allocChunkBytes in unfold is_no_page in unfold pick in
+          unfold engine.alloc_chunk in unfold engine.alloc_chunk_bytes in unfold is_no_page in unfold pick in
           rw (e, le-leb 12 (ready_page s c) h, none_model) (from_run_lem e (first_fit 1 s.runs) refl)
       go (is_first h rest e) =
-          unfold engine.alloc_chunk in unfold engine.allocChunkBytes in unfold is_no_page in unfold pick in unfold from_page in unfold granted in
+          unfold engine.alloc_chunk in unfold engine.alloc_chunk_bytes in unfold is_no_page in unfold pick in unfold from_page in unfold granted in
           rw (e, lt-leb 12 (ready_page s c) h, first_model rest e, set-mark rest e)
           (record { answers = unfold alloc_answer in offset-is rest e; leaves = chunk_taken_lem s b sh wf c p rest e })
 

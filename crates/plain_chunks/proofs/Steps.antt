@@ -7,7 +7,7 @@ use Prim.Native.Nat.{ℕ, ◌+◌, ◌*◌, ◌≤◌, ◌<◌}
 use native.Mathlib.Omega.{arith}
 use lib.Dec.{eqb, ltb}
 use lib.ListN.{length, get_or}
-use borrow.Author.Tests.{lt-ltb, not-true, not-false}
+use borrow.Author.Tests.{lt-ltb}
 use Rattle.base.specs.Tests.{pick}
 use Rattle.base.specs.Search.{any}
 use Rattle.base.proofs.Cases.{eq?}
@@ -35,19 +35,19 @@ pub passed_none : (m : ℕ → Bool) → Passed m 0
 passed_none m = record { used = λ j h. absurd (omega arith) }
 
 module _ (m : ℕ → Bool) (i : ℕ) (before : Passed m i) where
-  pub passed_next : (t : Bool) → t ≡ m i → not t ≡ false → Passed m (i + 1)
+  pub passed_next : (t : Bool) → t ≡ m i → t ≡ true → Passed m (i + 1)
   passed_next t e f = record { used = λ j h. go j h (eq? j i) }
     where
       go : (j : ℕ) → j < i + 1 → (j ≡ i) ⊎ (j ≡ i → ⊥) → m j ≡ true
-      go j h (inl d) = ap m d ∙ sym e ∙ not-false t f
+      go j h (inl d) = ap m d ∙ sym e ∙ f
       go j h (inr d) = before.used j (omega arith)
 
   found_at : (c : ℕ) → i ≤ chunks c → (i < chunks c → m i ≡ false) → i ≡ lowest c m
   unfolding lowest
   found_at c l here = sym (least-is (λ j. not (m j)) (chunks c) i (record { at_most = l; before = λ j h. rw (before.used j h); passes = λ h. rw (here h) }))
 
-  pub lowest_here : (c n : ℕ) → n ≡ chunks c → i < n → (t : Bool) → t ≡ m i → not t ≡ true → i ≡ lowest c m
-  lowest_here c n is l t e f = found_at c (omega arith) (λ h. sym e ∙ not-true t f)
+  pub lowest_here : (c n : ℕ) → n ≡ chunks c → i < n → (t : Bool) → t ≡ m i → t ≡ false → i ≡ lowest c m
+  lowest_here c n is l t e f = found_at c (omega arith) (λ h. sym e ∙ f)
 
   pub lowest-none : (c n : ℕ) → n ≡ chunks c → i ≤ n → n ≤ i → n ≡ lowest c m
   lowest-none c n is l h = let d : n ≡ i = omega arith in d ∙ found_at c (omega arith) (λ k. absurd (omega arith))

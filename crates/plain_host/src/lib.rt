@@ -10,14 +10,14 @@ use answers::Offset;
 use plain::{Answer, Counts, Extent, Kept, PageEntry};
 
 // What a host has.
-#[derive(Drop)]
+#[derive(Clone, Copy)]
 pub struct Host {
     pub kept: Kept,
     pub runs: [Extent; 12],
 }
 
 // The answer of a call: the refusal's number, 0 where it is granted, and the offset or the bytes released.
-#[derive(Drop)]
+#[derive(Clone, Copy)]
 pub struct Reply {
     pub after: Host,
     pub number: u8,

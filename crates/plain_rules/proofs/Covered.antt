@@ -52,6 +52,7 @@ mem-read e (x ∷ t) m v = go (eq? x.len 0) m (λ n. mem-read e t n v)
     go (inl u) (inr n) ih = rw (read-vacant x t u) (ih n)
     go (inr u) (inl d) ih = rw (read-run x t u) (inl (ap run_of d))
     go (inr u) (inr n) ih = rw (read-run x t u) (inr (ih n))
+mem-read e [] m v = elim m [ ]
 
 tail-once : (e : Extent) (t : List Extent) → NoDup (read_runs (e ∷ t)) → NoDup (read_runs t)
 tail-once e t d = side (eq? e.len 0)

@@ -145,9 +145,9 @@ module _ (s : Plain) (b : List ℕ) where
           where
             listed_so : ClassPage s b p c → has_clear c (mark_of b p c) ≡ true → Mem p (list_of s c)
             listed_so P clear =
-                let one : how_many (is_page p) s.ready ≡ bit true = listings p P.in-pool ∙ ap bit (open_back p c P.kind P.class clear) in
+                let one : how_many (is_page p) s.ready ≡ bit true = listings p P.in_pool ∙ ap bit (open_back p c P.kind P.class clear) in
                 let (x, m, e) = many_mem (is_page p) s.ready (omega arith) in
-                mem_list c p (mem-listed p s.ready (mem_cast s.ready (sym (page-is p x e)) m) P.in-pool) P.class
+                mem_list c p (mem-listed p s.ready (mem_cast s.ready (sym (page-is p x e)) m) P.in_pool) P.class
 
   pub lists_back : WellFormed (read_plain s b) → (p : ℕ) → p < 12 → list_ok b s.ready p (entry_at s p) ≡ true
   unfolding list_ok

@@ -22,6 +22,7 @@ module _ {A : Type 0} where
   pub at_mem : (x : A) (t : List A) (d : A) → Mem x t → (i : ℕ) × (i < length t) × (get_or t i d ≡ x)
   at_mem x (y ∷ t) d (inl e) = (0, omega arith, sym e)
   at_mem x (y ∷ t) d (inr m) = let (i, l, e) = at_mem x t d m in (suc i, omega arith, e)
+  at_mem x [] d x'' = elim x'' [ ]
 
   module _ (q : A → Bool) where
     pub many_none : (t : List A) → ((x : A) → Mem x t → q x ≡ false) → how_many q t ≡ 0
@@ -44,6 +45,7 @@ module _ {A : Type 0} where
     pub mem_many : (x : A) (t : List A) → Mem x t → q x ≡ true → 1 ≤ how_many q t
     mem_many x (y ∷ t) (inl e) f = omega (arith, many_head y t (ap q (sym e) ∙ f))
     mem_many x (y ∷ t) (inr m) f = omega (arith, many_tail y t, mem_many x t m f)
+    mem_many x [] x3 f = elim x3 [ ]
 
     pub many_mem : (t : List A) → 1 ≤ how_many q t → (x : A) × Mem x t × (q x ≡ true)
     many_mem [] h = absurd (omega (arith, none))

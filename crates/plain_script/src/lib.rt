@@ -23,7 +23,7 @@ use printing::{put_line, put_phrase};
 use script_lines::Request;
 
 // After a line: the state, and the place after what was printed.
-#[derive(Drop)]
+#[derive(Clone, Copy)]
 pub struct Turn {
     pub after: Host,
     pub at: usize,

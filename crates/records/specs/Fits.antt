@@ -6,10 +6,10 @@ use Rattle.records.specs.declared.Links.{Links}
 
 pub record HeaderFits (h : Header) : Type 0 where
   pub edition : h.edition < 256
-  pub same_min_shift : h.min_shift < 16
-  pub same_page_shift : h.page_shift < 16
+  pub min_shift : h.min_shift < 16
+  pub page_shift : h.page_shift < 16
   pub pages : h.pages < 65536
-  pub same_free_pages : h.free_pages < 65536
+  pub free_pages : h.free_pages < 65536
   pub first_run : h.first_run.0 < 65536
 
 pub record ClassFits (r : ClassRecord) : Type 0 where

@@ -40,10 +40,10 @@ pub const LARGEST_CHUNK: u32 = 2048;
 pub const MOST_ASKS: u32 = 4294967295;
 
 // A page by its number, or NO_PAGE.
-#[derive(Drop)]
+#[derive(Clone, Copy)]
 pub struct PageNumber(pub u16);
 
-#[derive(Drop)]
+#[derive(Clone, Copy)]
 pub struct Header {
     pub edition: u8,
     pub min_shift: u8,
@@ -54,7 +54,7 @@ pub struct Header {
 }
 
 // `reqs` and `fails` are nginx's names for asks and failures (SPEC 2.3).
-#[derive(Drop)]
+#[derive(Clone, Copy)]
 pub struct ClassRecord {
     pub first: PageNumber,
     pub used: u32,
@@ -64,7 +64,7 @@ pub struct ClassRecord {
 }
 
 // A page record but for its chunk map.
-#[derive(Drop)]
+#[derive(Clone, Copy)]
 pub struct Links {
     pub kind: u8,
     pub class: u8,

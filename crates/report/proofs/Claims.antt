@@ -177,8 +177,8 @@ module _ (m : State) (W : WellFormed m) where
 
       back : Mem it m.runs → Mem (free_span p n) (spans_below (shown m) m.size)
       back x =
-          let some : 1 ≤ n = (W.free-runs.sound it x).some-page in
-          let free : is_idle (m.page p) ≡ true = (W.free-runs.sound it x).all_free p (omega arith) (omega (arith, some)) in
+          let some : 1 ≤ n = (W.free_runs.sound it x).some-page in
+          let free : is_idle (m.page p) ≡ true = (W.free_runs.sound it x).all_free p (omega arith) (omega (arith, some)) in
           let low : p < m.size = inside-pages p (λ e. clash free (ap is_idle e)) in
           listed (shown m) (free_span p n) p m.size low (free_here (shown m) p n (starts_at_lem W.free_runs it x) some)
 
@@ -200,8 +200,8 @@ module _ (m : State) (W : WellFormed m) where
 
       go : Keyed (λ r. r.start) p m.runs (starts_at p m.runs) → starts_at p m.runs ≡ 0
       go (inl (x, y, a, b)) =
-          let some : 1 ≤ x.len = (W.free-runs.sound x y).some-page in
-          absurd (clash ((W.free-runs.sound x y).all_free p (omega (arith, a)) (omega (arith, a, some))) (ap is_idle busy))
+          let some : 1 ≤ x.len = (W.free_runs.sound x y).some-page in
+          absurd (clash ((W.free_runs.sound x y).all_free p (omega (arith, a)) (omega (arith, a, some))) (ap is_idle busy))
       go (inr (z, _)) = z
 
   in_order : RisingSpans 0 (spans m)

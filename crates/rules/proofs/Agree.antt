@@ -25,7 +25,7 @@ use Rattle.rules.proofs.Pages.{page_in, page-past, head-says, open_says}
 
 module _ {n : ℕ} {v u : Fields} (few : n ≤ no_page) (A : Agree n v u) where
   links_same : (p : ℕ) → p < n → v.image.links p ≡ u.image.links p
-  links_same p h = A.image-same.links p h
+  links_same p h = A.image_same.links p h
 
   kind_same : (p : ℕ) → p < n → kind v p ≡ kind u p
   kind_same p h = ap (λ (l : Links). l.kind) (links_same p h)
@@ -81,7 +81,7 @@ module _ {n : ℕ} {v u : Fields} (few : n ≤ no_page) (A : Agree n v u) where
   run_is p k h = ap (λ (l : Links). eqb l.run k) (links_same p h)
 
   map_is : (p k : ℕ) → p < n → eqb (map v p) k ≡ eqb (map u p) k
-  map_is p k h = ap (λ (x : ℕ). eqb x k) (A.image-same.map p h)
+  map_is p k h = ap (λ (x : ℕ). eqb x k) (A.image_same.map p h)
 
   next-is : (p k : ℕ) → p < n → eqb (next v p) k ≡ eqb (next u p) k
   next-is p k h = ap (λ (x : ℕ). eqb x k) (next_same p h)
@@ -121,7 +121,7 @@ module _ {n : ℕ} {v u : Fields} (few : n ≤ no_page) (A : Agree n v u) where
       all_of_same _ _ _ _ refl (λ t.
       all_of_same _ _ _ _ (run_is p 0 h) (λ t.
       all_of_same _ _ _ _ refl (λ t.
-      all_of_same _ _ _ _ (ap (λ (x : ℕ). map_fits x (class v p)) (A.image-same.map p h)) (λ t. refl))))
+      all_of_same _ _ _ _ (ap (λ (x : ℕ). map_fits x (class v p)) (A.image_same.map p h)) (λ t. refl))))
       ∙ ap (λ (l : Links). class_with u p l.class (v.mark p)) (links_same p h) ∙ ap (class_with u p (class u p)) (A.marks p h k)
 
   first_taken_same : (p : ℕ) → p < n → first_taken v n p ≡ first_taken u n p
@@ -220,14 +220,14 @@ module _ {n : ℕ} {v u : Fields} (few : n ≤ no_page) (A : Agree n v u) where
   unfolding rule3
   agree_rule3 =
       linked_same (is_head v n) (λ q t. next_same q (head-below q t)) (λ q t. prev_same q (head-below q t)) (count (is_head v n) n) no_page v.image.first_run
-      ∙ rw (heads_same, A.image-same.first_run)
+      ∙ rw (heads_same, A.image_same.first_run)
 
   class_list_same : (c : ℕ) → c < 9 → class_list v n c ≡ class_list u n c
   unfolding class_list
   class_list_same c h =
       linked_same (open_at v n c) (λ q t. next_same q (open_below c q t)) (λ q t. prev_same q (open_below c q t)) (count (open_at v n c) n) no_page (first v c)
       ∙ ap (λ (g : ℕ → Bool). linked g (next u) (prev u) (count g n) no_page (first v c)) (opens_same c)
-      ∙ ap (λ (r : ClassRecord). linked (open_at u n c) (next u) (prev u) (count (open_at u n c) n) no_page r.first.0) (A.image-same.class c h)
+      ∙ ap (λ (r : ClassRecord). linked (open_at u n c) (next u) (prev u) (count (open_at u n c) n) no_page r.first.0) (A.image_same.class c h)
 
   full_same : (p : ℕ) → p < n → full_alone v n p ≡ full_alone u n p
   unfolding full_alone
@@ -249,12 +249,12 @@ module _ {n : ℕ} {v u : Fields} (few : n ≤ no_page) (A : Agree n v u) where
 
   counts_same : (c : ℕ) → c < 9 → counts_fit v n c ≡ counts_fit u n c
   unfolding counts_fit used_of shown read_fields
-  counts_same c h = rw (A.image-same.class c h, pages_same)
+  counts_same c h = rw (A.image_same.class c h, pages_same)
 
   pub agree_rule6 : rule6 v n ≡ rule6 u n
   unfolding rule6
   agree_rule6 =
-      pick_same _ _ (ap (λ (x : ℕ). eqb x (free_in (page_at v n) n)) A.image-same.same_free_pages ∙ ap (λ (f : ℕ → Page). eqb u.image.free_pages (free_in f n)) pages_same)
+      pick_same _ _ (ap (λ (x : ℕ). eqb x (free_in (page_at v n) n)) A.image_same.free_pages ∙ ap (λ (f : ℕ → Page). eqb u.image.free_pages (free_in f n)) pages_same)
       (λ t. all_same (counts_fit v n) (counts_fit u n) 9 counts_same) (λ t. refl)
 
   -- ---- the state that is read
@@ -279,7 +279,7 @@ module _ {n : ℕ} {v u : Fields} (few : n ≤ no_page) (A : Agree n v u) where
       heads : trail (next v) (count (is_head v n) n) v.image.first_run ≡ trail (next u) (count (is_head u n) n) u.image.first_run
       heads = unfold rule3 in
           trail_same (is_head v n) (λ q t. next_same q (head-below q t)) (prev v) (count (is_head v n) n) no_page v.image.first_run three
-          ∙ rw (heads_same, A.image-same.first_run)
+          ∙ rw (heads_same, A.image_same.first_run)
 
       runs_same : with_lengths (run v) (heads_of v n) ≡ with_lengths (run u) (heads_of u n)
       runs_same = unfold heads_of rule3 in
@@ -292,8 +292,8 @@ module _ {n : ℕ} {v u : Fields} (few : n ≤ no_page) (A : Agree n v u) where
           trail_same (open_at v n c) (λ q t. next_same q (open_below c q t)) (prev v) (count (open_at v n c) n) no_page (first v c)
           (all-at (class_list v n) 9 (both_true _ _ four).0 c h)
           ∙ ap (λ (g : ℕ → Bool). trail (next u) (count g n) (first v c)) (opens_same c)
-          ∙ ap (λ (r : ClassRecord). trail (next u) (count (open_at u n c) n) r.first.0) (A.image-same.class c h)) (λ w. refl))
+          ∙ ap (λ (r : ClassRecord). trail (next u) (count (open_at u n c) n) r.first.0) (A.image_same.class c h)) (λ w. refl))
 
       tallies_same : tally_of v ≡ tally_of u
       tallies_same = unfold tally_of in
-          fun_ext (λ c. pick_same _ _ refl (λ w. rw (A.image-same.class c (ltb-true _ _ w))) (λ w. refl))
+          fun_ext (λ c. pick_same _ _ refl (λ w. rw (A.image_same.class c (ltb-true _ _ w))) (λ w. refl))

@@ -46,6 +46,7 @@ module _ (len : ℕ → ℕ) where
       go (inl e) m ih = rw (eq-eqb q p e) (ap len e)
       go (inr d) (inl e) ih = absurd (d (sym e))
       go (inr d) (inr m) ih = rw (ne_eqb q p d) (ih m)
+  start_on [] p m = elim m [ ]
 
   start-off : (ps : List ℕ) (p : ℕ) → ¬ Mem p ps → starts_at p (with_lengths len ps) ≡ 0
   start-off [] p out = refl
@@ -188,7 +189,7 @@ module _ {v : Fields} {n : ℕ} (few : n ≤ no_page) (H : Holds v n) (B : Bound
   image_drawn : Same n v.image (state_image (read_fields v n))
   unfolding state_image read_fields
   image_drawn = record {
-    same_free_pages = (rule6-says v n H.six).0;
+    free_pages = (rule6-says v n H.six).0;
     first_run = L.entry ∙ ap (head_or no_page) (sym (starts_are (run v) (heads_of v n)));
     class = class_record_lem;
     map = maps_drawn;

@@ -26,9 +26,9 @@ use Rattle.model.specs.View.{is_class, kind_of, used_on, used_of, total_in, show
 use Rattle.model.proofs.Lists.{open_is}
 use Rattle.model.proofs.Table.{in_table, slab_ok}
 use Rattle.image.proofs.Fits.{Fits}
-use Rattle.rules.specs.Fields.{kind, run}
+use Rattle.rules.specs.Fields.{run}
 use Rattle.rules.specs.Rules.{free_in}
-use Rattle.rules.specs.Drawn.{starts, links, on_list, back_link, free_links, page_links, state_image, state_fields}
+use Rattle.rules.specs.Drawn.{starts, on_list, back_link, free_links, page_links, state_image, state_fields}
 use Rattle.rules.proofs.Runs.{mem-start, started}
 use Rattle.rules.proofs.Shown.{run-within, links_are, shows-rule2}
 
@@ -75,7 +75,7 @@ module _ {m : State} (W : WellFormed m) (few : m.size ≤ 4096) where
   starts_under : Under n (omega arith) (starts m.runs)
   starts_under q k =
       let (r, rm, e) = mem-start m.runs q k in
-      omega (arith, run-within W r rm, (W.free-runs.sound r rm).some-page)
+      omega (arith, run-within W r rm, (W.free_runs.sound r rm).some-page)
 
   lists_under : (c : ℕ) → Under n (omega arith) (m.lists c)
   lists_under c q k =
@@ -137,7 +137,7 @@ module _ {m : State} (W : WellFormed m) (few : m.size ≤ 4096) where
   pub state-fits : Fits n (state_image m)
   unfolding state_image free_in most
   state-fits = record {
-    same_free_pages = omega (arith, count_bound (λ p. is_idle (m.page p)) n);
+    free_pages = omega (arith, count_bound (λ p. is_idle (m.page p)) n);
     first_run = head_bound n (omega arith) (starts m.runs) starts_under;
     class = λ c h. record {
       first = head_bound n (omega arith) (m.lists c) (lists_under c);

@@ -44,6 +44,7 @@ module _ (n : ℕ) (nx pv : ℕ → ℕ) (few : n ≤ no_page) where
   back_from : (ys : List ℕ) (x q : ℕ) → Back ys x → Mem q ys → (zs : List ℕ) × Back zs q × (length zs ≤ length ys)
   back_from (y ∷ ys) x q c (inl e) = (y ∷ ys, (e, c.1, c.2), omega arith)
   back_from (y ∷ ys) x q c (inr m) = let r = back_from ys (pv y) q c.2 m in (r.0, r.1, omega (arith, r.2))
+  back_from [] x q c x4 = elim x4 [ ]
 
   fresh : (ys : List ℕ) (p : ℕ) → p < n → Back ys (pv p) → Mem p ys → ⊥
   fresh ys p l c m =
@@ -54,6 +55,7 @@ module _ (n : ℕ) (nx pv : ℕ → ℕ) (few : n ≤ no_page) where
   apart : (L ys : List ℕ) (b h : ℕ) → Back ys b → Chain n nx pv b h L → (q : ℕ) → Mem q ys → Mem q L → ⊥
   apart (p ∷ L) ys b h k c q m (inl e) = fresh ys p c.1 (rw c.2 k) (subst (λ (x : ℕ). Mem x ys) e m)
   apart (p ∷ L) ys b h k c q m (inr i) = apart L (p ∷ ys) p (nx p) (refl, c.1, rw c.2 k) c.3 q (inr m) i
+  apart [] ys b h k c q m x4 = elim x4 [ ]
 
   distinct : (L ys : List ℕ) (b h : ℕ) → Back ys b → Chain n nx pv b h L → NoDup L
   distinct [] ys b h k c = tt
@@ -74,6 +76,7 @@ module _ (n : ℕ) (nx pv : ℕ → ℕ) where
       go (inl e) m ih = rw (eq-eqb p q e) (sym (ap nx e) ∙ chain_head L p (nx p) c.3)
       go (inr d) (inl e) ih = absurd (d (sym e))
       go (inr d) (inr m) ih = rw (ne_eqb p q d) (ih m)
+  chain_next [] b h c q m = elim m [ ]
 
   chain_prev : (L : List ℕ) (b h : ℕ) → Chain n nx pv b h L → (q : ℕ) → Mem q L → pv q ≡ prev_from no_page b q L
   chain_prev (p ∷ L) b h c q m = go (eq? p q) m (chain_prev L p (nx p) c.3 q)
@@ -82,6 +85,7 @@ module _ (n : ℕ) (nx pv : ℕ → ℕ) where
       go (inl e) m ih = rw (eq-eqb p q e) (sym (ap pv e) ∙ c.2)
       go (inr d) (inl e) ih = absurd (d (sym e))
       go (inr d) (inr m) ih = rw (ne_eqb p q d) (ih m)
+  chain_prev [] b h c q m = elim m [ ]
 
   chain_of : (L : List ℕ) (b : ℕ) → NoDup L → ((q : ℕ) → Mem q L → q < n) → ((q : ℕ) → Mem q L → nx q ≡ next_in no_page q L)
       → ((q : ℕ) → Mem q L → pv q ≡ prev_from no_page b q L) → Chain n nx pv b (head_or no_page L) L
@@ -126,6 +130,7 @@ module _ (n : ℕ) (good : ℕ → Bool) (nx pv : ℕ → ℕ) (below : (q : ℕ
   unfolding linked
   linked-good (suc k) b h e q (inl x) = rw x (both_true _ _ e).0
   linked-good (suc k) b h e q (inr m) = linked-good k h (nx h) (both_true _ _ (both_true _ _ e).1).1 q m
+  linked-good zero b h e q x'' = elim x'' [ ]
 
   linked_chain : (k b h : ℕ) → linked good nx pv k b h ≡ true → Chain n nx pv b h (trail nx k h)
   unfolding linked

@@ -17,8 +17,8 @@ rule1-says w s e =
       some = leb-true _ _ x.0;
       few = leb-true _ _ x.1.0;
       edition = eqb-true _ _ x.1.1.0;
-      same_min_shift = eqb-true _ _ x.1.1.1.0;
-      same_page_shift = eqb-true _ _ x.1.1.1.1.0;
+      min_shift = eqb-true _ _ x.1.1.1.0;
+      page_shift = eqb-true _ _ x.1.1.1.1.0;
       pages = eqb-true _ _ x.1.1.1.1.1.0;
     }
 
@@ -29,7 +29,7 @@ rule1-holds w s R =
       le-leb _ _ R.some,
       (
         le-leb _ _ R.few,
-        (eq-eqb _ _ R.edition, (eq-eqb _ _ R.same_min_shift, (eq-eqb _ _ R.same_page_shift, (eq-eqb _ _ R.pages, tt)))),
+        (eq-eqb _ _ R.edition, (eq-eqb _ _ R.min_shift, (eq-eqb _ _ R.page_shift, (eq-eqb _ _ R.pages, tt)))),
       ),
     )
 

@@ -146,6 +146,6 @@ module _ (v : Fields) (n : ℕ) where
   pub rule6_iff : (rule6 v n ≡ true) ↔ Rule6 v n
   rule6_iff = (
     λ e. let (f, g) = rule6-says e in
-        record { same_free_pages = f ∙ free-counted; used = λ c h. (g c h).0 ∙ used-counted c; total = λ c h. (g c h).1 ∙ total-counted c },
-    λ R. says-rule6 (R.same_free_pages ∙ sym free-counted) (λ c h. (R.used c h ∙ sym (used-counted c), R.total c h ∙ sym (total-counted c))),
+        record { free_pages = f ∙ free-counted; used = λ c h. (g c h).0 ∙ used-counted c; total = λ c h. (g c h).1 ∙ total-counted c },
+    λ R. says-rule6 (R.free_pages ∙ sym free-counted) (λ c h. (R.used c h ∙ sym (used-counted c), R.total c h ∙ sym (total-counted c))),
   )

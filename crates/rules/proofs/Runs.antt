@@ -17,10 +17,12 @@ use Rattle.rules.specs.Drawn.{starts}
 pub start-mem : (rs : List Run) (r : Run) → Mem r rs → Mem r.start (starts rs)
 start-mem (x ∷ rs) r (inl e) = inl (ap (λ (y : Run). y.start) e)
 start-mem (x ∷ rs) r (inr m) = inr (start-mem rs r m)
+start-mem [] r x' = elim x' [ ]
 
 pub mem-start : (rs : List Run) (p : ℕ) → Mem p (starts rs) → (r : Run) × Mem r rs × (r.start ≡ p)
 mem-start (x ∷ rs) p (inl e) = (x, inl refl, sym e)
 mem-start (x ∷ rs) p (inr m) = let (r, k, e) = mem-start rs p m in (r, inr k, e)
+mem-start [] p x' = elim x' [ ]
 
 pub lengths-back : (len : ℕ → ℕ) (rs : List Run) → ((r : Run) → Mem r rs → len r.start ≡ r.len) → with_lengths len (starts rs) ≡ rs
 lengths-back len [] h = refl

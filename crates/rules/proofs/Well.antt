@@ -30,10 +30,12 @@ module _ (len : ℕ → ℕ) where
   pub run_on : (ps : List ℕ) (r : Run) → Mem r (with_lengths len ps) → Mem r.start ps × (r ≡ run_at r.start)
   run_on (p ∷ ps) r (inl e) = (inl (ap (λ (x : Run). x.start) e), rw e)
   run_on (p ∷ ps) r (inr m) = let x = run_on ps r m in (inr x.0, x.1)
+  run_on [] r x' = elim x' [ ]
 
   pub on_run : (ps : List ℕ) (p : ℕ) → Mem p ps → Mem (run_at p) (with_lengths len ps)
   on_run (q ∷ ps) p (inl e) = inl (ap run_at e)
   on_run (q ∷ ps) p (inr m) = inr (on_run ps p m)
+  on_run [] p x' = elim x' [ ]
 
   pub runs-once : (ps : List ℕ) → NoDup ps → NoDup (with_lengths len ps)
   runs-once [] d = tt

@@ -17,8 +17,8 @@ pub record Rule1 (w : ℕ) (s : List ℕ) : Type 0 where
   pub some : 8 + 72 * w + 4112 ≤ length s
   pub few : pages_in w s ≤ max_pages
   pub edition : (header_at s).edition ≡ w - 1
-  pub same_min_shift : (header_at s).min_shift ≡ 3
-  pub same_page_shift : (header_at s).page_shift ≡ 12
+  pub min_shift : (header_at s).min_shift ≡ 3
+  pub page_shift : (header_at s).page_shift ≡ 12
   pub pages : (header_at s).pages ≡ pages_in w s
 
 -- ---- rule 2: the pages divide into free runs, taken runs and class pages; no two free runs touch; the maps' own chunks are marked;
@@ -118,7 +118,7 @@ unfoldable pub of_class : (v : Fields) (c p : ℕ) → Bool
 of_class v c p = eqb (kind v p) 2 && eqb (class v p) c
 
 pub record Rule6 (v : Fields) (n : ℕ) : Type 0 where
-  pub same_free_pages : v.image.free_pages ≡ count (λ p. leb (kind v p) 1) n
+  pub free_pages : v.image.free_pages ≡ count (λ p. leb (kind v p) 1) n
   pub used : (c : ℕ) → c < 9 → (v.image.class c).used ≡ sum (λ p. count (λ i. leb (own c) i && (of_class v c p && v.mark p i)) (chunks c)) n
   pub total : (c : ℕ) → c < 9 → (v.image.class c).total ≡ count (of_class v c) n * counted c
 

@@ -182,7 +182,7 @@ pub shows-written : {P : ℕ} {page : ℕ → Page} {rs : List Run} {ls : ℕ �
     → (f : ℕ → Links) → ((q : ℕ) → Out a k q → f q ≡ J.links q) → ((q : ℕ) → a ≤ q → q < a + k → f q ≡ page_links rs ls q (page q))
     → ShowsLinks P page rs ls (set_all_links J f)
 shows-written {P} {page} {rs} {ls} T {J} a k S off f same new = record {
-  free-list =
+  free_list =
       listed_kept J (set_all_links J f) 0 (starts rs) (unfold first_in in refl)
       (λ q m. (omega (arith, T.few, T.idle_in q (start-free T.runs q m)), same q (out q (λ u v. (off q u v).no_run m) (in? a k q)))) S.free_list;
   class_list = λ c l.
@@ -225,7 +225,7 @@ module _ {P : ℕ} {page : ℕ → Page} {rs : List Run} {ls : ℕ → List ℕ}
   front_kept = cut-kept T.runs in_pool counted k pos r found
 
   pub front_pages : (front_on J r.start k).free_pages ≡ J.free_pages - k
-  front_pages = front_kept.same_free_pages
+  front_pages = front_kept.free_pages
 
   pub front_class : (front_on J r.start k).class ≡ J.class
   front_class = front_kept.class

@@ -120,7 +120,7 @@ module _ (w : ℕ) (wide : 2 ≤ w) (narrow : w ≤ 255) {m : State} (W : WellFo
     same₁ : Same m.size J₁ (state_image m₁)
     unfolding state_image
     same₁ = record {
-      same_free_pages = taken-pages T S k pos r found ∙ taken_free;
+      free_pages = taken-pages T S k pos r found ∙ taken_free;
       first_run = first_run shows₁;
       class = λ c l. ap (λ (f : ℕ → ClassRecord). f c) (taken-class T S k pos r found) ∙ sym (same_class m page₁ (carve k m.runs) alike₁ c);
       map = λ q l. ap (λ (f : ℕ → ℕ). f q) (taken-map T S k pos r found) ∙ sym (same_map m page₁ (carve k m.runs) alike₁ q);
@@ -198,7 +198,7 @@ module _ (w : ℕ) (wide : 2 ≤ w) (narrow : w ≤ 255) {m : State} (W : WellFo
     same₂ : Same m.size J₂ (state_image m₂)
     unfolding state_image
     same₂ = record {
-      same_free_pages = released-pages T p k S₂ pos end busy off ∙ released-free;
+      free_pages = released-pages T p k S₂ pos end busy off ∙ released-free;
       first_run = first_run shows₂;
       class = λ c l. ap (λ (f : ℕ → ClassRecord). f c) (released-class T p k S₂ pos end busy off) ∙ sym (same_class m page₂ (join_runs p k m.runs) alike₂ c);
       map = λ q l. ap (λ (f : ℕ → ℕ). f q) (released-map T p k S₂ pos end busy off) ∙ sym (same_map m page₂ (join_runs p k m.runs) alike₂ q);

@@ -69,7 +69,7 @@ module _ (w P : ℕ) (wide : 2 ≤ w) (narrow : w ≤ 255) (s : List ℕ) (room 
   first : (header_at (paint w P J s)).first_run.0 ≡ head_or no_page (starts rs)
   first =
       ap (λ (h : Header). h.first_run.0)
-      (header_shown w P wide J s room (header_fits w P _ _ narrow (omega (arith, T.few)) F.same_free_pages F.first_run))
+      (header_shown w P wide J s room (header_fits w P _ _ narrow (omega (arith, T.few)) F.free_pages F.first_run))
       ∙ (unfold first_in pick in (sym (next-head J 0) ∙ R.list.nexts (head 0) (inl refl)))
 
   -- the list has at most P runs

@@ -48,7 +48,7 @@ unfolding drop_on pick
 kept-drop J n q = go (eq? n 0)
   where
     go : (n ≡ 0) ⊎ (n ≢ 0) → Kept J (drop_on J n q)
-    go (inl e) = rw (eq-eqb n 0 e) (record { same_free_pages = refl; class = refl; map = refl })
+    go (inl e) = rw (eq-eqb n 0 e) (record { free_pages = refl; class = refl; map = refl })
     go (inr e) = rw (ne_eqb n 0 e) (kept-unlink J _)
 
 -- the run with this key, n pages long, leaves the list; or there is none
@@ -463,7 +463,7 @@ module _ {P : ℕ} {page : ℕ → Page} {rs : List Run} {ls : ℕ → List ℕ}
   released-kept = join_kept J₀ p k (ends_at p rs) (starts_at (p + k) rs)
 
   pub released-pages : (released_on J p k (ends_at p rs) (starts_at (p + k) rs)).free_pages ≡ J.free_pages + k
-  released-pages = released-kept.same_free_pages
+  released-pages = released-kept.free_pages
 
   pub released-class : (released_on J p k (ends_at p rs) (starts_at (p + k) rs)).class ≡ J.class
   released-class = released-kept.class

@@ -128,7 +128,7 @@ module _ (w P : ℕ) (wide : 2 ≤ w) (narrow : w ≤ 255) {page : ℕ → Page}
     pub front_fits : Fits P (front_on J r.start k)
     unfolding front_on
     front_fits =
-        cut_fits w P wide narrow T.few (fits-free F (J.free_pages - k) (omega (arith, F.same_free_pages))) r.start k (J.links r.start) near run-within
+        cut_fits w P wide narrow T.few (fits-free F (J.free_pages - k) (omega (arith, F.free_pages))) r.start k (J.links r.start) near run-within
 
     pub taken-fits : Fits P (taken_on J r.start k)
     unfolding taken_on
@@ -174,8 +174,8 @@ module _ (w P : ℕ) (wide : 2 ≤ w) (narrow : w ≤ 255) {page : ℕ → Page}
       some = pos;
       before = a_fits T.runs low R₀ p k pos busy top;
       after = b_fits T.runs low R₀ p k pos busy top P T.idle_in in_size;
-      near-right = λ d. let (x, y) = close_right T.runs low R₀ p k pos busy top d in record { prev = maybe _ x; next = maybe _ y };
-      near-left = λ d. let (x, y) = close_left T.runs low R₀ p k pos busy top d in record { prev = maybe _ x; next = maybe _ y };
+      near_right = λ d. let (x, y) = close_right T.runs low R₀ p k pos busy top d in record { prev = maybe _ x; next = maybe _ y };
+      near_left = λ d. let (x, y) = close_left T.runs low R₀ p k pos busy top d in record { prev = maybe _ x; next = maybe _ y };
       near_first = maybe _ (close_first T.runs low R₀ p k pos busy top);
     }
 

@@ -76,7 +76,7 @@ module _ (w P : ℕ) (wide : 2 ≤ w) (narrow : w ≤ 255) (top : P ≤ no_page)
 
   pub fits-fill : {J : Image} → Fits P J → (p n : ℕ) (l : Links) → LinksFit l → Fits P (fill_on J p n l)
   fits-fill {J} F p n l L = record {
-    same_free_pages = F.same_free_pages;
+    free_pages = F.free_pages;
     first_run = F.first_run;
     class = F.class;
     links = λ q u. go q u (in? p n q);
@@ -139,14 +139,14 @@ module _ (w P : ℕ) (wide : 2 ≤ w) (narrow : w ≤ 255) (top : P ≤ no_page)
     pub fewer_paint : {J : Image} → Fits P J → (k : ℕ) → fewer_free (paint w P J s) k ≡ paint w P (set_free J (J.free_pages - k)) s
     unfolding fewer_free
     fewer_paint {J} F k =
-        rw (header_shown w P wide J s room (header_fits w P _ _ narrow (omega arith) F.same_free_pages F.first_run))
+        rw (header_shown w P wide J s room (header_fits w P _ _ narrow (omega arith) F.free_pages F.first_run))
         (header_paint w P wide J s (J.free_pages - k) J.first_run)
 
     pub more_paint : {J : Image} → Fits P J → (k : ℕ) → J.free_pages + k < 65536 → more_free (paint w P J s) k ≡ paint w P (set_free J (J.free_pages + k)) s
     unfolding more_free
     more_paint {J} F k h =
         rw (
-          header_shown w P wide J s room (header_fits w P _ _ narrow (omega arith) F.same_free_pages F.first_run),
+          header_shown w P wide J s room (header_fits w P _ _ narrow (omega arith) F.free_pages F.first_run),
           wrap-small (J.free_pages + k) h,
         )
         (header_paint w P wide J s (J.free_pages + k) J.first_run)
@@ -155,7 +155,7 @@ module _ (w P : ℕ) (wide : 2 ≤ w) (narrow : w ≤ 255) (top : P ≤ no_page)
     unfolding filled
     filled-paint J p zero l h =
         paint_ext w P J (fill_on J p 0 l) s (record {
-          same_free_pages = refl;
+          free_pages = refl;
           first_run = refl;
           class = λ c u. refl;
           map = λ q u. refl;
@@ -168,7 +168,7 @@ module _ (w P : ℕ) (wide : 2 ≤ w) (narrow : w ≤ 255) (top : P ≤ no_page)
     filled-paint J p (suc n) l h =
         rw (filled-paint J p n l (omega arith), wrap-small (p + n) (omega arith), links-paint w P wide (fill_on J p n l) s (p + n) l (omega arith))
         (paint_ext w P (set_links (fill_on J p n l) (p + n) l) (fill_on J p (suc n) l) s (record {
-          same_free_pages = refl;
+          free_pages = refl;
           first_run = refl;
           class = λ c u. refl;
           map = λ q u. refl;
@@ -215,7 +215,7 @@ module _ (w P : ℕ) (wide : 2 ≤ w) (narrow : w ≤ 255) (top : P ≤ no_page)
     unfolding front_off front_on
     front_painted {J} F p k l N h =
         rw (links-shown w P wide J s room p l (F.links p l), fewer_paint F k)
-        (cut-paint (fits-free F (J.free_pages - k) (omega (arith, F.same_free_pages))) p k (J.links p) N h)
+        (cut-paint (fits-free F (J.free_pages - k) (omega (arith, F.free_pages))) p k (J.links p) N h)
 
     pub taken_painted : {J : Image} → Fits P J → (p k : ℕ) → p < P → p + k ≤ P → Near P (J.links p) → p + (J.links p).run ≤ P
         → run_taken w (paint w P J s) p k ≡ paint w P (taken_on J p k) s

@@ -207,7 +207,7 @@ shows_fewer S f = record { free_list = S.free_list; class_list = S.class_list; s
 -- the first page of the list of free runs that an image shows
 pub first_run : {P : ℕ} {page : ℕ → Page} {rs : List Run} {ls : ℕ → List ℕ} {J : Image} → ShowsLinks P page rs ls J → J.first_run ≡ head_or no_page (starts rs)
 unfolding first_in pick
-first_run {P} {page} {rs} {ls} {J} S = sym (next-head J 0) ∙ S.free-list.nexts (head 0) (inl refl)
+first_run {P} {page} {rs} {ls} {J} S = sym (next-head J 0) ∙ S.free_list.nexts (head 0) (inl refl)
 
 pub state_scene : {m : State} → WellFormed m → m.size ≤ no_page → Scene m.size m.page m.runs m.lists
 state_scene {m} W few = record {

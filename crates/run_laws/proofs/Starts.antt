@@ -1,5 +1,5 @@
 -- The first pages of the free runs when runs leave the list and when one is cut.
-use mathlib.Core.Path.{◌≡◌, refl, ap}
+use mathlib.Core.Path.{subst, sym, ◌≡◌, refl, ap}
 use mathlib.Core.Logic.{inl, inr}
 use mathlib.Core.Bool.{Bool, true, false, cond, ◌&&◌}
 use mathlib.Core.Option.{some}
@@ -51,8 +51,15 @@ starts-carve k (y ∷ ys) r e once = go (leb k y.len) e (starts-carve k ys r)
         cond (ltb k r.len) (replace r.start (r.start + k) (starts (y ∷ ys))) (keep (others r.start) (starts (y ∷ ys)))
     go true e ih =
         let q : y ≡ r = cc in
-        rw (← q, eq-eqb y.start y.start refl, keep_every (others y.start) (starts ys) (λ x m. rw (ne_eqb x y.start (λ d. once.0 (rw (← d) m)))))
-        (side (ltb k y.len))
+        let kept : keep (others y.start) (starts (y ∷ ys)) ≡ starts ys =
+            rw (eq-eqb y.start y.start refl) (keep_every (others y.start) (starts ys) (λ x m. rw (ne_eqb x y.start (λ d. once.0 (rw (← d) m))))) in
+        subst
+        (λ (x : Run). starts (cut_front k y ++ ys) ≡ cond (ltb k x.len) (replace x.start (x.start + k) (starts (y ∷ ys))) (keep (others x.start) (starts (y ∷ ys))))
+        q
+        (subst
+        (λ (w : List ℕ). starts (cut_front k y ++ ys) ≡ cond (ltb k y.len) (replace y.start (y.start + k) (starts (y ∷ ys))) w)
+        (sym kept)
+        (rw (eq-eqb y.start y.start refl) (side (ltb k y.len))))
       where
         side : (t : Bool) → starts (cond t (record { start = y.start + k; len = y.len - k } ∷ []) [] ++ ys) ≡ cond t ((y.start + k) ∷ starts ys) (starts ys)
         side true = refl

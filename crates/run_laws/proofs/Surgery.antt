@@ -30,23 +30,23 @@ use Rattle.run_laws.proofs.Shown.{RunsShown, within, listed_kept}
 -- ---- what changes of list 0 leave alone
 
 pub record Kept (I J : Image) : Type 0 where
-  pub same_free_pages : J.free_pages ≡ I.free_pages
+  pub free_pages : J.free_pages ≡ I.free_pages
   pub class : J.class ≡ I.class
   pub map : J.map ≡ I.map
 
 pub kept-both : {I J K : Image} → Kept I J → Kept J K → Kept I K
-kept-both A B = record { same_free_pages = B.same_free_pages ∙ A.same_free_pages; class = B.class ∙ A.class; map = B.map ∙ A.map }
+kept-both A B = record { free_pages = B.free_pages ∙ A.free_pages; class = B.class ∙ A.class; map = B.map ∙ A.map }
 
 pub kept-links : (I : Image) (f : ℕ → Links) → Kept I (set_all_links I f)
-kept-links I f = record { same_free_pages = refl; class = refl; map = refl }
+kept-links I f = record { free_pages = refl; class = refl; map = refl }
 
 kept_next : (I : Image) (p v : ℕ) → Kept I (put_next I 0 p v)
 unfolding put_next put_first pick
 kept_next I p v = go (eq? p no_page)
   where
     go : (p ≡ no_page) ⊎ (p ≢ no_page) → Kept I (put_next I 0 p v)
-    go (inl e) = rw (eq-eqb p no_page e) (record { same_free_pages = refl; class = refl; map = refl })
-    go (inr e) = rw (ne_eqb p no_page e) (record { same_free_pages = refl; class = refl; map = refl })
+    go (inl e) = rw (eq-eqb p no_page e) (record { free_pages = refl; class = refl; map = refl })
+    go (inr e) = rw (ne_eqb p no_page e) (record { free_pages = refl; class = refl; map = refl })
 
 pub kept-unlink : (I : Image) (l : Links) → Kept I (unlink I 0 l)
 unfolding unlink
@@ -58,7 +58,7 @@ kept_put I old p l = kept-both (kept-both (kept-links I _) (kept_next _ old.prev
 
 pub kept_push : (I : Image) (p : ℕ) (l : Links) → Kept I (push I 0 p l)
 unfolding push put_first pick
-kept_push I p l = record { same_free_pages = refl; class = refl; map = refl }
+kept_push I p l = record { free_pages = refl; class = refl; map = refl }
 
 -- ---- the back link of a run's last page
 
@@ -89,7 +89,7 @@ module _ (J : Image) (t n : ℕ) where
     where
       go : (1 < n) ⊎ (n ≤ 1) → Kept J (back_on J t n)
       go (inl h) = rw (lt-ltb 1 n h) (kept-links J _)
-      go (inr h) = rw (le-ltb 1 n h) (record { same_free_pages = refl; class = refl; map = refl })
+      go (inr h) = rw (le-ltb 1 n h) (record { free_pages = refl; class = refl; map = refl })
 
 -- ---- the list of free runs
 

@@ -9,7 +9,7 @@ use answers::Offset;
 use branchless::all5;
 
 // What a line asks for, in the script's words.
-#[derive(Drop)]
+#[derive(Clone, Copy)]
 pub enum Request {
     Take(u32),
     Give(Offset),

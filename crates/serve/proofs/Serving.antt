@@ -17,7 +17,7 @@ use Rattle.serve.proofs.Order.{InOrder}
 module _ (w P : ℕ) where
   pub in_order : InOrder (served_word w P) (served_slice w P) (served_words w P) (served_all w P)
   unfolding served_words served_all
-  in_order = record { no-reply = λ s. refl; one-reply = λ s x xs. refl; none_left = λ s. refl; one_left = λ s x xs. refl }
+  in_order = record { no-reply = λ s. refl; one_reply = λ s x xs. refl; none_left = λ s. refl; one_left = λ s x xs. refl }
 
   module _ (s : List ℕ) (x : ℕ) where
     abbrev low : ℕ

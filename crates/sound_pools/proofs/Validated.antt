@@ -24,13 +24,13 @@ use Rattle.sound_pools.proofs.Calls.{after-sound, after-length}
 -- ---- from what validation answers
 
 module _ (w : ℕ) (s : List ℕ) (t : Bool) (e : t ≡ eqb (broken_rule w s) 0) where
-  pub unsound-told : not t ≡ true → broken_rule w s ≢ 0
-  unsound-told n = eqb-false _ _ (sym e ∙ not-true t n)
+  pub unsound-told : t ≡ false → broken_rule w s ≢ 0
+  unsound-told n = eqb-false _ _ (sym e ∙ n)
 
-  sound-told : not t ≡ false → broken_rule w s ≡ 0
-  sound-told n = eqb-true _ _ (sym e ∙ not-false t n)
+  sound-told : t ≡ true → broken_rule w s ≡ 0
+  sound-told n = eqb-true _ _ (sym e ∙ n)
 
-  pub validated : 2 ≤ w → w ≤ 255 → Bytes s → not t ≡ false → (pages : ℕ) → pages ≡ page_count w (length s) % 65536 → Validated w s pages
+  pub validated : 2 ≤ w → w ≤ 255 → Bytes s → t ≡ true → (pages : ℕ) → pages ≡ page_count w (length s) % 65536 → Validated w s pages
   validated wide narrow B n pages p = record {
     pool = record { wide = wide; narrow = narrow; bytes = B; sound = sound-told n };
     counted = p ∙ omega (arith, facts.few w wide narrow s B (sound-told n));

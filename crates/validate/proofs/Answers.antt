@@ -16,7 +16,7 @@ use Rattle.rules.specs.Bytes.{pages_in, rule1, counts_and_peaks, broken_rule}
 use Rattle.validate.specs.Mirror.{from_rule2, from_rule3}
 
 -- rule 1 bounds the page count
-pub few-pages : (w : ℕ) (s : List ℕ) (n : ℕ) (u : Bool) → n ≡ pages_in w s → u ≡ rule1 w s → not u ≡ false → n ≤ 4096
+pub few-pages : (w : ℕ) (s : List ℕ) (n : ℕ) (u : Bool) → n ≡ pages_in w s → u ≡ rule1 w s → u ≡ true → n ≤ 4096
 unfolding rule1 all_of
 few-pages w s n u e d f =
     let a = both_true _ _ (passed _ u d f) in
@@ -38,16 +38,16 @@ all-zero (suc k) (suc j) = all-zero k j
 -- ---- a choice by a test of a call's result u
 
 module _ {A : Type 0} {x : A} (a b : A) (t u : Bool) (e : u ≡ t) where
-  pub pick-fails : not u ≡ true → x ≡ b → x ≡ pick t a b
+  pub pick-fails : u ≡ false → x ≡ b → x ≡ pick t a b
   unfolding pick
-  pick-fails f p = rw (sym e ∙ not-true u f) p
+  pick-fails f p = rw (sym e ∙ f) p
 
-  pub pick_passes : not u ≡ false → x ≡ a → x ≡ pick t a b
+  pub pick_passes : u ≡ true → x ≡ a → x ≡ pick t a b
   unfolding pick
-  pick_passes f p = rw (sym e ∙ not-false u f) p
+  pick_passes f p = rw (sym e ∙ f) p
 
 pub ruleset firsts = (pick-fails, pick_passes, rules)
 
-pub after_header : (w : ℕ) (s : List ℕ) (n r : ℕ) (u : Bool) → n ≡ pages_in w s → u ≡ rule1 w s → not u ≡ false → r ≡ from_rule2 w s n → r ≡ broken_rule w s
+pub after_header : (w : ℕ) (s : List ℕ) (n r : ℕ) (u : Bool) → n ≡ pages_in w s → u ≡ rule1 w s → u ≡ true → r ≡ from_rule2 w s n → r ≡ broken_rule w s
 unfolding broken_rule counts_and_peaks from_rule2 from_rule3
 after_header w s n r u e d f q = pick_passes _ _ (rule1 w s) u d f (rw e at q)

@@ -183,14 +183,14 @@ pub pass_none : (v : Fields) (n : ℕ) (t : List ℕ) → length t ≡ 11 → ((
 unfolding sum
 pass_none v n t e z = record { len = e; counted = λ j l. z j }
 
-module _ (w : ℕ) (s : List ℕ) (n p : ℕ) (B : Bytes s) (pages : n ≡ pages_in w s) (most : n ≤ 4096) (h : p < n) (u : Bool) (fits : u ≡ shape_at (fields_of w s) n p) (on : not u ≡ false) where
+module _ (w : ℕ) (s : List ℕ) (n p : ℕ) (B : Bytes s) (pages : n ≡ pages_in w s) (most : n ≤ 4096) (h : p < n) (u : Bool) (fits : u ≡ shape_at (fields_of w s) n p) (on : u ≡ true) where
   pub pass_more : (t t' : List ℕ) (l : Links) → Passed (fields_of w s) n p t → l ≡ (fields_of w s).image.links p → t' ≡ page_added w s t p l → Passed (fields_of w s) n (p + 1) t'
   unfolding sum
   pass_more t t' l K e d = record {
     len = rw d (length-page_added w s t p l ∙ K.len);
     counted = λ j b.
         rw (d, e, add-one p)
-        (page_added_lem w s n p B pages h (sym fits ∙ not-false u on) t K.len small j b ∙ ap (λ (x : ℕ). x + share (fields_of w s) n j p) (K.counted j b));
+        (page_added_lem w s n p B pages h (sym fits ∙ on) t K.len small j b ∙ ap (λ (x : ℕ). x + share (fields_of w s) n j p) (K.counted j b));
   }
     where
       small : (j : ℕ) → j < 11 → get_or t j 0 + share (fields_of w s) n j p < 2 ^ 64

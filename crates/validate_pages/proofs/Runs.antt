@@ -139,46 +139,46 @@ module _ {w : ℕ} {s : List ℕ} {n p : ℕ} {l : Links} (H : Here w s n p l) w
     -- ---- a free run, a taken run, a class page
 
     module _ (u : Bool) where
-      pub free_stays : (t' : List ℕ) → l.kind ≡ 1 → u ≡ free_whole w s n p l → not u ≡ true → Steps v n p p t t'
+      pub free_stays : (t' : List ℕ) → l.kind ≡ 1 → u ≡ free_whole w s n p l → u ≡ false → Steps v n p p t t'
       free_stays t' k e o =
           stays v n p t t' H.below (λ a.
-          clash (free_must w s n p (omega (arith, H.few)) H.plain (is-kind 1 k) B H.below (each v n a)) (rw (← H.is) (sym e ∙ not-true u o)))
+          clash (free_must w s n p (omega (arith, H.few)) H.plain (is-kind 1 k) B H.below (each v n a)) (rw (← H.is) (sym e ∙ o)))
 
-      pub free_steps : (t' : List ℕ) → l.kind ≡ 1 → u ≡ free_whole w s n p l → not u ≡ false → t' ≡ add_at t 9 (4294967296 + l.run) → Steps v n p (p + l.run) t t'
+      pub free_steps : (t' : List ℕ) → l.kind ≡ 1 → u ≡ free_whole w s n p l → u ≡ true → t' ≡ add_at t 9 (4294967296 + l.run) → Steps v n p (p + l.run) t t'
       free_steps t' k e o d =
-          let a : free_whole w s n p (v.image.links p) ≡ true = rw (← H.is) (sym e ∙ not-false u o) in
+          let a : free_whole w s n p (v.image.links p) ≡ true = rw (← H.is) (sym e ∙ o) in
           let F = free-kept w s n p (omega (arith, H.few)) H.plain (is-kind 1 k) a in
           let f = run_steps (run v p) 0 (add_at t 9 (4294967296 + run v p)) F
           (border-free v n p (run v p) F (is-kind 1 k) (free-ends w s n p (omega (arith, H.few)) H.plain (is-kind 1 k) a))
           (λ K. let z : suc (run v p - 1) ≡ run v p = omega (arith, F.some) in rw z at (free_passed (run v p) F (is-kind 1 k) K (run v p - 1) (omega (arith, F.some)))) in
           rw (d, H.is) f
 
-      pub taken-stays : (t' : List ℕ) → l.kind ≡ 3 → u ≡ taken_whole w s n p l → not u ≡ true → Steps v n p p t t'
+      pub taken-stays : (t' : List ℕ) → l.kind ≡ 3 → u ≡ taken_whole w s n p l → u ≡ false → Steps v n p p t t'
       taken-stays t' k e o =
           stays v n p t t' H.below (λ a.
-          clash (taken_must w s n p (omega (arith, H.few)) H.plain (is-kind 3 k) B H.below (each v n a)) (rw (← H.is) (sym e ∙ not-true u o)))
+          clash (taken_must w s n p (omega (arith, H.few)) H.plain (is-kind 3 k) B H.below (each v n a)) (rw (← H.is) (sym e ∙ o)))
 
-      pub taken_steps : l.kind ≡ 3 → u ≡ taken_whole w s n p l → not u ≡ false → Steps v n p (p + l.run) t t
+      pub taken_steps : l.kind ≡ 3 → u ≡ taken_whole w s n p l → u ≡ true → Steps v n p (p + l.run) t t
       taken_steps k e o =
-          let a : taken_whole w s n p (v.image.links p) ≡ true = rw (← H.is) (sym e ∙ not-false u o) in
+          let a : taken_whole w s n p (v.image.links p) ≡ true = rw (← H.is) (sym e ∙ o) in
           let F = taken-kept w s n p (omega (arith, H.few)) H.plain (is-kind 3 k) a in
           let f = run_steps (run v p) 4 t F
           (border-taken v n p (run v p) F (is-kind 3 k) (taken-ends w s n p (omega (arith, H.few)) H.plain (is-kind 3 k) a))
           (λ K. let z : suc (run v p - 1) ≡ run v p = omega (arith, F.some) in rw z at (taken_passed (run v p) F (is-kind 3 k) K (run v p - 1) (omega (arith, F.some)))) in
           rw H.is f
 
-      class-kept : l.kind ≡ 2 → u ≡ class_page v p → not u ≡ false → rule2_at v n p ≡ true
+      class-kept : l.kind ≡ 2 → u ≡ class_page v p → u ≡ true → rule2_at v n p ≡ true
       unfolding rule2_at shape_at links_fit_at pick
-      class-kept k e o = rw (H.plain, is-kind 2 k, sym e ∙ not-false u o)
+      class-kept k e o = rw (H.plain, is-kind 2 k, sym e ∙ o)
 
-      pub class_in : u ≡ class_page v p → not u ≡ false → l.class ≤ 8
-      class_in e o = rw H.is (slab_of w s p (sym e ∙ not-false u o)).in_range
+      pub class_in : u ≡ class_page v p → u ≡ true → l.class ≤ 8
+      class_in e o = rw H.is (slab_of w s p (sym e ∙ o)).in_range
 
-      pub class-stays : (t' : List ℕ) → l.kind ≡ 2 → u ≡ class_page v p → not u ≡ true → Steps v n p p t t'
+      pub class-stays : (t' : List ℕ) → l.kind ≡ 2 → u ≡ class_page v p → u ≡ false → Steps v n p p t t'
       class-stays t' k e o =
-          stays v n p t t' H.below (λ a. clash (rw (is-kind 2 k) at (by_kind_lem v n p (each v n a p H.below))) (sym e ∙ not-true u o))
+          stays v n p t t' H.below (λ a. clash (rw (is-kind 2 k) at (by_kind_lem v n p (each v n a p H.below))) (sym e ∙ o))
 
-      pub class_steps : (t' : List ℕ) → l.kind ≡ 2 → u ≡ class_page v p → not u ≡ false
+      pub class_steps : (t' : List ℕ) → l.kind ≡ 2 → u ≡ class_page v p → u ≡ true
           → t' ≡ class_added t l.class (ones_at w s p l.class) l → Steps v n p (p + 1) t t'
       class_steps t' k e o d =
           let F : Kept v n p 1 0 = record { some = omega arith; within = omega (arith, H.below); first = class-kept k e o; rest = λ j a b. absurd (omega arith) } in

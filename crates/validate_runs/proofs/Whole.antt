@@ -5,7 +5,7 @@ use mathlib.Core.Bool.{true}
 use mathlib.Core.List.{List}
 use Prim.Native.Nat.{ℕ, ◌+◌, ◌-◌, ◌*◌, ◌%◌, ◌≤◌, ◌<◌}
 use native.Mathlib.Omega.{arith}
-use borrow.Author.Tests.{eq_eqb, eqb-true, eqb-false, lt-ltb, ltb-true, le-leb, leb-true, not-true}
+use borrow.Author.Tests.{eq-eqb, eqb-true, eqb-false, lt-ltb, ltb-true, le-leb, leb-true, not-true}
 use Rattle.base.specs.Tests.{pick}
 use Rattle.base.proofs.Tests.{both_true}
 use Rattle.base.proofs.Cases.{eq?}
@@ -67,7 +67,7 @@ module _ (v : Fields) (n p : ℕ) where
 
   no_links_lem : next v p ≡ no_page → prev v p ≡ no_page → no_links v p ≡ true
   unfolding no_links
-  no_links_lem f q = pick-both _ _ (eq_eqb _ no_page f) (eq_eqb _ no_page q)
+  no_links_lem f q = pick-both _ _ (eq-eqb _ no_page f) (eq-eqb _ no_page q)
 
   no_links-says : no_links v p ≡ true → (next v p ≡ no_page) × (prev v p ≡ no_page)
   unfolding no_links
@@ -77,14 +77,14 @@ module _ (v : Fields) (n p : ℕ) where
       → (inside_free v p ≡ true) × (inside_links v n p ≡ true)
   unfolding inside_free inside_links
   inside_free_lem c r m f h b q = (
-    all_of_lem _ (eq_eqb _ 0 c & eq_eqb _ 0 r & eq_eqb _ 0 m & lt-ltb 0 p h & le-leb _ 1 b & tt),
-    pick-both _ _ (eq_eqb _ no_page f) (if_asked _ _ (λ a. eq_eqb _ no_page (q a))),
+    all_of_lem _ (eq-eqb _ 0 c & eq-eqb _ 0 r & eq-eqb _ 0 m & lt-ltb 0 p h & le-leb _ 1 b & tt),
+    pick-both _ _ (eq-eqb _ no_page f) (if_asked _ _ (λ a. eq-eqb _ no_page (q a))),
   )
 
   inside_taken_lem : class v p ≡ 0 → run v p ≡ 0 → map v p ≡ 0 → next v p ≡ no_page → prev v p ≡ no_page → 0 < p → 2 < kind v (p - 1)
       → (inside_taken v p ≡ true) × (no_links v p ≡ true)
   unfolding inside_taken
-  inside_taken_lem c r m f q h b = (all_of_lem _ (eq_eqb _ 0 c & eq_eqb _ 0 r & eq_eqb _ 0 m & lt-ltb 0 p h & lt-ltb 2 _ b & tt), no_links_lem f q)
+  inside_taken_lem c r m f q h b = (all_of_lem _ (eq-eqb _ 0 c & eq-eqb _ 0 r & eq-eqb _ 0 m & lt-ltb 0 p h & lt-ltb 2 _ b & tt), no_links_lem f q)
 
   inside_free-says : (inside_free v p ≡ true) × (inside_links v n p ≡ true)
       → (class v p ≡ 0) × (run v p ≡ 0) × (map v p ≡ 0) × (next v p ≡ no_page) × (0 < p) × (kind v (p - 1) ≤ 1)
@@ -99,7 +99,7 @@ module _ (v : Fields) (n p : ℕ) where
         eqb-true _ _ y.0,
         ltb-true _ _ x.1.1.1.0,
         leb-true _ _ x.1.1.1.1.0,
-        λ h k. eqb-true _ _ (asked _ _ y.1 (pick-both _ _ (lt-ltb (p + 1) n h) (eq_eqb _ 0 k))),
+        λ h k. eqb-true _ _ (asked _ _ y.1 (pick-both _ _ (lt-ltb (p + 1) n h) (eq-eqb _ 0 k))),
       )
 
   inside_taken-says : (inside_taken v p ≡ true) × (no_links v p ≡ true)
@@ -147,7 +147,7 @@ module _ (w : ℕ) (s : List ℕ) where
   told-plain B x j l e z m q =
       let y : word s (links_place w j) ≡ x =
       sym (pack_unpack_links (word s (links_place w j)) (word_small s (links_place w j) B) z) ∙ ap pack_links e ∙ q in
-      pick-both _ _ (eq_eqb _ x y) (eq_eqb _ 0 m)
+      pick-both _ _ (eq-eqb _ x y) (eq-eqb _ 0 m)
 
   -- ---- the first page of a run
 
@@ -159,7 +159,7 @@ module _ (w : ℕ) (s : List ℕ) where
 
   must_begin : (n p : ℕ) (l : Links) → l.class ≡ 0 → map v p ≡ 0 → 0 < l.run → p + l.run ≤ n → begins w s n p l ≡ true
   unfolding begins
-  must_begin n p l c m h b = all_of_lem _ (eq_eqb _ 0 c & eq_eqb _ 0 m & lt-ltb 0 l.run h & le-leb (p + l.run) n b & tt)
+  must_begin n p l c m h b = all_of_lem _ (eq-eqb _ 0 c & eq-eqb _ 0 m & lt-ltb 0 l.run h & le-leb (p + l.run) n b & tt)
 
   -- ---- a free run
 
@@ -238,17 +238,17 @@ module _ (w : ℕ) (s : List ℕ) where
       unfolding run_fits kind_from
       fits =
           all_of_lem _ (lt-ltb 0 k tests.2 & le-leb (p + k) n tests.3
-          & at_all _ (k - 1) (λ i l. eq_eqb _ 0 (inside-kind (p + 1 + i) (omega arith) (omega arith))) & tt)
+          & at_all _ (k - 1) (λ i l. eq-eqb _ 0 (inside-kind (p + 1 + i) (omega arith) (omega arith))) & tt)
 
       back : last_back v p k ≡ true
       unfolding last_back unpack_links
       back =
           if_asked _ _ (λ h.
-          eq_eqb _ p (ap (λ (x : Links). x.prev.0) (plain-links _ _ (last (ltb-true 1 k h))) ∙ omega (arith, tests.3, tests.2)))
+          eq-eqb _ p (ap (λ (x : Links). x.prev.0) (plain-links _ _ (last (ltb-true 1 k h))) ∙ omega (arith, tests.3, tests.2)))
 
       first-kept : rule2_at v n p ≡ true
       unfolding first_free free_run
-      first-kept = kept_1 v n p z first (all_of_lem _ (eq_eqb _ 0 tests.0 & eq_eqb _ 0 tests.1 & fits & ends & tt)) back
+      first-kept = kept_1 v n p z first (all_of_lem _ (eq-eqb _ 0 tests.0 & eq-eqb _ 0 tests.1 & fits & ends & tt)) back
 
       pub free-kept : Kept v n p k 0
       free-kept = record {
@@ -345,13 +345,13 @@ module _ (w : ℕ) (s : List ℕ) where
       unfolding run_fits kind_from
       taken-fits =
           all_of_lem _ (lt-ltb 0 (run v p) taken_tests.4 & le-leb (p + run v p) n taken_tests.5
-          & at_all _ (run v p - 1) (λ i l. eq_eqb _ 4 (taken-kind (p + 1 + i) (omega arith) (omega arith))) & tt)
+          & at_all _ (run v p - 1) (λ i l. eq-eqb _ 4 (taken-kind (p + 1 + i) (omega arith) (omega arith))) & tt)
 
       taken-first : rule2_at v n p ≡ true
       unfolding first_taken taken_run
       taken-first =
           let t = taken_tests in
-          kept_3 v n p z first (all_of_lem _ (eq_eqb _ 0 t.0 & eq_eqb _ 0 t.1 & taken-fits & taken-ends & tt)) (no_links_lem v n p t.2 t.3)
+          kept_3 v n p z first (all_of_lem _ (eq-eqb _ 0 t.0 & eq-eqb _ 0 t.1 & taken-fits & taken-ends & tt)) (no_links_lem v n p t.2 t.3)
 
       pub taken-kept : Kept v n p (run v p) 4
       taken-kept = record {
@@ -387,7 +387,7 @@ module _ (w : ℕ) (s : List ℕ) where
       unfolding taken_whole taken_rest
       taken_must =
           let t = taken-says in
-          pick-both _ _ (all_of_lem _ (must_begin n p _ t.0 t.1 taken-fit.0 taken-fit.1 & eq_eqb _ no_page t.2 & eq_eqb _ no_page t.3 & tt))
+          pick-both _ _ (all_of_lem _ (must_begin n p _ t.0 t.1 taken-fit.0 taken-fit.1 & eq-eqb _ no_page t.2 & eq-eqb _ no_page t.3 & tt))
           (pick-both _ _ t.5 must_taken)
 
 -- ---- where a run may begin

@@ -11,23 +11,23 @@ use Rattle.base.proofs.Tests.{both_true}
 use Rattle.rules.specs.Fields.{Fields}
 use Rattle.rules.specs.Rules.{kind_from, run_fits, by_kind}
 
-pub walked : (n p k : ℕ) (u : Bool) → u ≡ pick (ltb 0 k) (leb (p + k) n) false → not u ≡ false → (0 < k) × (p + k ≤ n)
-walked n p k u e f = let x = both_true (ltb 0 k) (leb (p + k) n) (sym e ∙ not-false u f) in (ltb-true 0 k x.0, leb-true (p + k) n x.1)
+pub walked : (n p k : ℕ) (u : Bool) → u ≡ pick (ltb 0 k) (leb (p + k) n) false → u ≡ true → (0 < k) × (p + k ≤ n)
+walked n p k u e f = let x = both_true (ltb 0 k) (leb (p + k) n) (sym e ∙ f) in (ltb-true 0 k x.0, leb-true (p + k) n x.1)
 
 module _ (v : Fields) (n p k inner : ℕ) (u : Bool) (e : u ≡ pick (ltb 0 k) (leb (p + k) n) false) where
-  pub too_long : not u ≡ true → false ≡ run_fits v n p k inner
+  pub too_long : u ≡ false → false ≡ run_fits v n p k inner
   unfolding run_fits all_of pick
-  too_long f = go (ltb 0 k) (leb (p + k) n) (sym e ∙ not-true u f)
+  too_long f = go (ltb 0 k) (leb (p + k) n) (sym e ∙ f)
     where
       go : (a b : Bool) → pick a b false ≡ false → false ≡ pick a (pick b (pick (all_below (kind_from v (p + 1) inner) (k - 1)) true false) false) false
       go true true z = absurd (true≢false z)
       go true false z = refl
       go false b z = refl
 
-  pub walk_fits : not u ≡ false → (r : Bool) → r ≡ all_below (kind_from v (p + 1) inner) (k - 1) → r ≡ run_fits v n p k inner
+  pub walk_fits : u ≡ true → (r : Bool) → r ≡ all_below (kind_from v (p + 1) inner) (k - 1) → r ≡ run_fits v n p k inner
   unfolding run_fits all_of pick
   walk_fits f r d =
-      let x = both_true (ltb 0 k) (leb (p + k) n) (sym e ∙ not-false u f) in
+      let x = both_true (ltb 0 k) (leb (p + k) n) (sym e ∙ f) in
       rw (x.0, x.1) (d ∙ whole (all_below (kind_from v (p + 1) inner) (k - 1)))
     where
       whole : (b : Bool) → b ≡ pick b true false

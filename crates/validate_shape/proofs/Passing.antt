@@ -17,8 +17,8 @@ pub links_are : (w : ℕ) (s : List ℕ) (p x : ℕ) → x ≡ word s (links_pla
 unfolding fields_of image_of links_at
 links_are w s p x e = ap unpack_links e
 
-pub class_ok : (w : ℕ) (s : List ℕ) (n p x : ℕ) (u : Bool) → u ≡ shape_at (fields_of w s) n p → not u ≡ false → x ≡ word s (links_place w p)
+pub class_ok : (w : ℕ) (s : List ℕ) (n p x : ℕ) (u : Bool) → u ≡ shape_at (fields_of w s) n p → u ≡ true → x ≡ word s (links_place w p)
     → (unpack_links x).kind ≡ 2 → (unpack_links x).class ≤ 8
 class_ok w s n p x u fits on e k =
     let l = links_are w s p x e in
-    rw l ((kind_of_lem w s n p 2 (sym fits ∙ not-false u on) (sym (ap (λ (y : Links). y.kind) l) ∙ k)).1 refl).in_range
+    rw l ((kind_of_lem w s n p 2 (sym fits ∙ on) (sym (ap (λ (y : Links). y.kind) l) ∙ k)).1 refl).in_range

@@ -11,29 +11,29 @@ use Rattle.rules.specs.Rules.{linked}
 
 -- X has come to page h from b with k pages to go
 module _ (good : ℕ → Bool) (nx pv : ℕ → ℕ) {X : Bool} (b h k : ℕ) (i : X ≡ linked good nx pv k b h) where
-  pub at_bad : 0 < k → (t : Bool) → t ≡ good h → not t ≡ true → false ≡ X
+  pub at_bad : 0 < k → (t : Bool) → t ≡ good h → t ≡ false → false ≡ X
   unfolding linked pick
   at_bad l t p q = sym (i ∙ go k l)
     where
       go : (j : ℕ) → 0 < j → linked good nx pv j b h ≡ false
       go zero l = absurd (omega arith)
-      go (suc j) l = rw (sym p ∙ not-true t q)
+      go (suc j) l = rw (sym p ∙ q)
 
-  pub at_back : 0 < k → (t u : Bool) → t ≡ good h → not t ≡ false → u ≡ eqb (pv h) b → not u ≡ true → false ≡ X
+  pub at_back : 0 < k → (t u : Bool) → t ≡ good h → t ≡ true → u ≡ eqb (pv h) b → u ≡ false → false ≡ X
   unfolding linked pick
   at_back l t u p q r e = sym (i ∙ go k l)
     where
       go : (j : ℕ) → 0 < j → linked good nx pv j b h ≡ false
       go zero l = absurd (omega arith)
-      go (suc j) l = rw (sym p ∙ not-false t q, sym r ∙ not-true u e)
+      go (suc j) l = rw (sym p ∙ q, sym r ∙ e)
 
-  pub at_on : 0 < k → (t u : Bool) (h' : ℕ) → t ≡ good h → not t ≡ false → u ≡ eqb (pv h) b → not u ≡ false → h' ≡ nx h → X ≡ linked good nx pv (k - 1) h h'
+  pub at_on : 0 < k → (t u : Bool) (h' : ℕ) → t ≡ good h → t ≡ true → u ≡ eqb (pv h) b → u ≡ true → h' ≡ nx h → X ≡ linked good nx pv (k - 1) h h'
   unfolding linked pick
   at_on l t u h' p q r e x = i ∙ go k l
     where
       go : (j : ℕ) → 0 < j → linked good nx pv j b h ≡ linked good nx pv (j - 1) h h'
       go zero l = absurd (omega arith)
-      go (suc j) l = let z : suc j - 1 ≡ j = omega arith in rw (z, sym p ∙ not-false t q, sym r ∙ not-false u e, x)
+      go (suc j) l = let z : suc j - 1 ≡ j = omega arith in rw (z, sym p ∙ q, sym r ∙ e, x)
 
   pub at-end : k ≤ 0 → eqb h no_page ≡ X
   unfolding linked

@@ -1,0 +1,12 @@
+use borrow.Author.Tests.{eq-eqb, ne_eqb}
+use Rattle.base.specs.Tests.{pick}
+use Rattle.plain.specs.Table.{is_vacant, begins_at}
+use Rattle.plain_runs.proofs.begins_at.Goals as goal
+
+pub returns-then-e-eq0 : goal.returns-then-e-eq0
+unfolding begins_at is_vacant pick
+returns-then-e-eq0 c = rw (eq-eqb _ _ c.if-e-eq0.true)
+
+pub returns : goal.returns
+unfolding begins_at is_vacant pick
+returns c = rw (ne_eqb _ _ c.if-e-eq0.false)

@@ -1,0 +1,6 @@
+use Rattle.report_lines.specs.Lines.{span_line}
+use Rattle.report_lines.proofs.put_free_run.Goals as goal
+
+pub returns : goal.returns
+unfolding span_line
+returns c = c.put_pair.ensures
