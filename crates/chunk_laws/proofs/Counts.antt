@@ -33,6 +33,7 @@ sum_swap h k (suc n) i l e = go (eq? i n) (λ u. sum_swap h k n i u (λ j v d. e
         let z : sum k n ≡ sum h n = sum_ext k h n (λ j u. e j (omega arith) (omega arith)) in
         rw q (omega arith)
     go (inr q) ih = omega (arith, ih (omega arith), e n (omega arith) (λ d. q (sym d)))
+sum_swap h k zero i l e = elim l [ ]
 
 count-all : (q : ℕ → Bool) (n : ℕ) → ((i : ℕ) → i < n → q i ≡ true) → count q n ≡ n
 unfolding count sum

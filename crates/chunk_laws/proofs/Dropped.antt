@@ -79,7 +79,7 @@ module _ {w : ℕ} {s : List ℕ} {m : State} {p c : ℕ} {k : ℕ → Bool} (H 
       omega (arith, used-no c k' last)
 
   last_told : last_taken (draw w s m) (map_word w P p c) c i ≡ true
-  last_told = remarked.last-taken-told H i in_use in-range set ∙ ap not last
+  last_told = remarked.last_taken-told H i in_use in-range set ∙ ap not last
 
   -- a page with one chunk taken is not full
   unfilled : has_clear c k ≡ true
@@ -144,10 +144,10 @@ module _ {w : ℕ} {s : List ℕ} {m : State} {p c : ℕ} {k : ℕ → Bool} (H 
   busy q a b = let e : q ≡ p = omega arith in rw (e, is)
 
   T : Scene P m.page m.runs less
-  T = remarked.less-scene H listed
+  T = remarked.less_scene H listed
 
   off : (d q : ℕ) → d ≤ 8 → p ≤ q → q < p + 1 → ¬ Mem q (less d)
-  off d q l a b = let e : q ≡ p = omega arith in rw e ((remarked.less-unlisted H listed).no-class d l)
+  off d q l a b = let e : q ≡ p = omega arith in rw e ((remarked.less_unlisted H listed).no-class d l)
 
   shows : ShowsOn (λ q. (q < P) × Out p 1 q) m.page m.runs less J
   shows = remarked.delisted-shows H listed
@@ -155,9 +155,9 @@ module _ {w : ℕ} {s : List ℕ} {m : State} {p c : ℕ} {k : ℕ → Bool} (H 
   lists_drawn : pages_released w (delisted w (draw w s m) c p) P p 1 ≡ paint w P (midway m n) S
   lists_drawn =
       rw (
-        remarked.delisted-drawn H listed,
+        remarked.delisted_drawn H listed,
         released-paint w P wide narrow T (remarked.delisted-fits H listed) p 1 shows (omega arith) (omega (arith, page-below H)) busy off
-            (λ q l e. omega (arith, W.table.ends q e)) most S (remarked.records-room H),
+            (λ q l e. omega (arith, W.table.ends q e)) most S (remarked.records_room H),
       )
       (shown-midway m n W Wn refl few K (released-shows T p 1 shows (omega arith) (omega (arith, page-below H)) busy off)
       (released-pages T p 1 shows (omega arith) (omega (arith, page-below H)) busy off ∙ ap (λ (x : ℕ). x + 1) relinked.free_pages ∙ free_more)

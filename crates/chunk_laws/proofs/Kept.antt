@@ -82,7 +82,7 @@ module _ {w : ℕ} {s : List ℕ} {m : State} {p c : ℕ} {k : ℕ → Bool} (H 
       let u : (used_of m c + 16777215) % 16777216 ≡ used_of n c = omega (arith, o, F.used) in
       let y : (used_of m c + 16777215) / 16777216 ≡ 1 = omega (arith, o, F.used) in
       let f : (((state_image n).class c).first.0 + 65535 + (used_of m c + 16777215) / 16777216) % 65536 ≡ ((state_image n).class c).first.0 = no_borrow _ _ y G.first in
-      let t : (shown m).total c ≡ (shown n).total c = sym (remarked.total-same H i false in-range l m.tally c) in
+      let t : (shown m).total c ≡ (shown n).total c = sym (remarked.total_same H i false in-range l m.tally c) in
       λ j. class_record (f j) (u j) (t j) (m.tally c)
 
   -- ---- the lists
@@ -91,17 +91,17 @@ module _ {w : ℕ} {s : List ℕ} {m : State} {p c : ℕ} {k : ℕ → Bool} (H 
   unfolding back_counted count_back pick relisted
   stays h =
       rw (remarked.off-told H ∙ ap not h)
-      (remarked.remarked-drawn H i false in-range l m.tally Wn chunk_borrowed own-record (λ d e. refl) _
-      (remarked.list-stays H i false in-range l m.tally Wn (rw h)))
+      (remarked.remarked_drawn H i false in-range l m.tally Wn chunk_borrowed own-record (λ d e. refl) _
+      (remarked.list_stays H i false in-range l m.tally Wn (rw h)))
 
   returns : has_clear c k ≡ false → with_mark (back_counted w (draw w s m) c p) (map_base w P p c) i false ≡ draw w s n
   unfolding back_counted count_back_first set_before pick
   returns h =
       rw (remarked.off-told H ∙ ap not h, remarked.class-told H)
-      (remarked.relinked-drawn H i false in-range l m.tally Wn chunk_borrowed own-record (λ d e. refl) first first p p (small P (omega arith) near) near
+      (remarked.relinked_drawn H i false in-range l m.tally Wn chunk_borrowed own-record (λ d e. refl) first first p p (small P (omega arith) near) near
       (omega (arith, page-below H)) (omega (arith, page-below H))
       (ap (λ (I : Image). paint w P I S) (first-pushed (state_image m) c p (class_links c))
-      ∙ remarked.lists-drawn H i false in-range l m.tally Wn (upd m.lists c (p ∷ m.lists c)) L
+      ∙ remarked.lists_drawn H i false in-range l m.tally Wn (upd m.lists c (p ∷ m.lists c)) L
       (λ d. unfold relisted in (rw h))
       (pushed-shows (state_scene W (omega arith)) c (page_ok H).in_range (W.class-lists.once c) (remarked.lists-apart m W few c) (state-shows m W (omega arith)) p (page-below H) off k is
       (λ q h o. h))
@@ -136,4 +136,4 @@ module _ {w : ℕ} {s : List ℕ} {m : State} {p c : ℕ} {k : ℕ → Bool} (H 
   pub chunk_kept : chunk_freed w (draw w s m) P c p i ≡ draw w s (keep_page m p c k i)
   unfolding chunk_freed freed_at kept_at keep_page pick
   chunk_kept =
-      rw (remarked.last-taken-told H i in_use in-range set ∙ ap not stay, remarked.base H, bit-own c i in-range) (⊎_elim stays returns (bool? (has_clear c k)))
+      rw (remarked.last_taken-told H i in_use in-range set ∙ ap not stay, remarked.base H, bit-own c i in-range) (⊎_elim stays returns (bool? (has_clear c k)))

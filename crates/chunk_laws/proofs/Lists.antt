@@ -65,6 +65,7 @@ off_on p (x ∷ xs) low m = go (eq? x p) m
     go (inr e) (inr k) =
         let l : prev_from no_page x p xs < no_page = low _ (prev_on no_page x p xs k) in
         rw (ne_eqb x p e, ne_eqb (prev_from no_page x p xs) no_page (omega arith))
+off_on p [] low m = elim m [ ]
 
 module _ (rs : List Run) (ls ls' : ℕ → List ℕ) (q : ℕ) where
   -- kind, class and run ask no list

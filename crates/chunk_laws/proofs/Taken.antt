@@ -106,14 +106,14 @@ module _ {w : ℕ} {s : List ℕ} {m : State} {p c : ℕ} {k : ℕ → Bool} (H 
       let F = (state-fits Wn few).class c (omega (arith, (page_ok H).in_range)) in
       let u : used_of m c + 1 ≡ used_of (n l) c = omega (arith, used_more, remarked.used-own H i true clear.0 l (n l).tally) in
       let f : (((state_image (n l)).class c).first.0 + (used_of m c + 1) / 16777216) % 65536 ≡ ((state_image (n l)).class c).first.0 = omega (arith, u, F.used, F.first) in
-      let t : (shown m).total c ≡ (shown (n l)).total c = sym (remarked.total-same H i true clear.0 l (n l).tally c) in
+      let t : (shown m).total c ≡ (shown (n l)).total c = sym (remarked.total_same H i true clear.0 l (n l).tally c) in
       let a : asked (m.tally c) ≡ (n l).tally c = sym (upd_same m.tally c (asked (m.tally c))) in
       λ j. class_record (f j) (u j) (t j) (a j)
 
   -- ---- the lists
 
   last : (b : Bool) → has_clear c k' ≡ b → last_free (draw w s m) (map_word w P p c) c i ≡ not b
-  last b h = remarked.last-free-told H i clear.0 clear.1 ∙ ap not h
+  last b h = remarked.last_free-told H i clear.0 clear.1 ∙ ap not h
 
   other_tally : (d : ℕ) → d ≢ c → (n l).tally d ≡ m.tally d
   other_tally d e = upd_other m.tally c (asked (m.tally c)) d e
@@ -122,27 +122,27 @@ module _ {w : ℕ} {s : List ℕ} {m : State} {p c : ℕ} {k : ℕ → Bool} (H 
   unfolding taken_counted count_used pick
   stays h =
       rw (last true h)
-      (remarked.remarked-drawn H i true clear.0 l (n l).tally Wn chunk_carried own-record other_tally _
-      (remarked.list-stays H i true clear.0 l (n l).tally Wn (on ∙ rw h)))
+      (remarked.remarked_drawn H i true clear.0 l (n l).tally Wn chunk_carried own-record other_tally _
+      (remarked.list_stays H i true clear.0 l (n l).tally Wn (on ∙ rw h)))
 
   leaves : has_clear c k' ≡ false → with_mark (taken_counted w (draw w s m) c p (last_free (draw w s m) (map_word w P p c) c i)) (map_base w P p c) i true ≡ draw w s (n l)
   unfolding taken_counted count_used_first set_aside pick
   leaves h =
       rw (last false h, remarked.links-told H)
-      (remarked.relinked-drawn H i true clear.0 l (n l).tally Wn chunk_carried own-record other_tally no_page after no_page after (omega arith) near (omega arith)
+      (remarked.relinked_drawn H i true clear.0 l (n l).tally Wn chunk_carried own-record other_tally no_page after no_page after (omega arith) near (omega arith)
       (small P (omega arith) near)
       (ap (λ (I : Image). paint w P I S) (first-left (state_image m) c p (class_links c) (rw first) (rw first (head_out no_page p rest (omega (arith, page-below H)) once.0)))
-      ∙ remarked.lists-drawn H i true clear.0 l (n l).tally Wn less (set_links J p (class_links c))
+      ∙ remarked.lists_drawn H i true clear.0 l (n l).tally Wn less (set_links J p (class_links c))
       (λ d. ap (λ (x : List ℕ). upd m.lists c x d) (gone ∙ rw h)) aside relinked.free_pages relinked.class relinked.map) _ refl)
     where
       first : (state_image m).links p ≡ links 2 c 0 (head_or no_page rest) no_page
-      first = remarked.page-links H ∙ rw (on, eq-eqb p p refl)
+      first = remarked.page_links_lem H ∙ rw (on, eq-eqb p p refl)
 
       after : ℕ
       after = ((state_image m).links p).next.0
 
       near : Maybe P after
-      near = remarked.next-near H listed
+      near = remarked.next_near H listed
 
       J : Image
       J = unlink (state_image m) (suc c) ((state_image m).links p)
@@ -159,11 +159,11 @@ module _ {w : ℕ} {s : List ℕ} {m : State} {p c : ℕ} {k : ℕ → Bool} (H 
           rw (on, eq-eqb p p refl) (keep_every (others p) rest (λ q r. rw (ne_eqb q p (λ e. once.0 (rw (← e) r)))))
 
       off : Unlisted m.runs less p
-      off = remarked.less-unlisted H listed
+      off = remarked.less_unlisted H listed
 
       aside : ShowsLinks P m.page m.runs less (set_links J p (class_links c))
       aside =
-          shows-written (remarked.less-scene H listed) p 1 (remarked.delisted-shows H listed)
+          shows-written (remarked.less_scene H listed) p 1 (remarked.delisted-shows H listed)
           (λ q a b. let e : q ≡ p = omega arith in rw e off)
           (upd J.links p (class_links c)) (upd_out J.links p (class_links c))
           (λ q a b.

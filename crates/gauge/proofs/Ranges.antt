@@ -1,5 +1,5 @@
 -- Tests of floats in plain form, and that half and half stays in range.
---     range_in, range_is   `inRange` is `UpTo 4096`
+--     range_in, range_is   `in_range` is `UpTo 4096`
 --     above                `lt` is `Above`, on numbers in range
 --     halves-up_to         half a load in range plus half a count in range is in range, rounded or not
 use Prim.Native.Nat.{ℕ, ◌+◌, ◌*◌, ◌≤◌, ◌<◌}

@@ -28,6 +28,9 @@ large_is : (x : Page) (p n : ℕ) → On x p (large (4096 * p) n) → x ≡ take
 unfolding On
 large_is (slab c m) p n (i, z, _, _, _) = absurd (never (cc))
 large_is (taken k) p n z = let y : k ≡ n = cc in ap taken y
+large_is edge p n z = elim z [ ]
+large_is inside p n z = elim z [ ]
+large_is idle p n z = elim z [ ]
 
 small_is : (x : Page) (p c i : ℕ) → On x p (small (4096 * p + chunk c * i) c) → (m : ℕ → Bool) × (x ≡ slab c m) × (m i ≡ true)
 unfolding On
@@ -37,6 +40,9 @@ small_is (slab d m) p c i (j, z, _, _, t) =
     let v : chunk c * i ≡ chunk d * j = omega arith in
     (m, ap (λ (k : ℕ). slab k m) y, rw (chunk_inj c i j (rw y at v)) t)
 small_is (taken k) p c i z = absurd (never (cc))
+small_is edge p c i z = elim z [ ]
+small_is inside p c i z = elim z [ ]
+small_is idle p c i z = elim z [ ]
 
 module _ (s t : State) (ws : WellFormed s) (wt : WellFormed t) (size : s.size ≡ t.size) (fewer : Fewer s t) where
   -- a taken run of s is one of t

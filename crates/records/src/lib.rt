@@ -28,7 +28,7 @@ pub const HEADER: usize = 8;
 
 pub const CLASS_WORD: usize = 72;
 
-// The most pages of a pool (`maxPages`), and the bytes of one more with their records.
+// The most pages of a pool (`max_pages`), and the bytes of one more with their records.
 pub const MOST_PAGES: usize = 4096;
 
 pub const TOO_LONG: usize = PAGE_AND_RECORD * (MOST_PAGES + 1);

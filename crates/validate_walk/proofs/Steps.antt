@@ -1,10 +1,9 @@
 -- One step of a walk, from the facts that the tests give.
 use mathlib.Core.Path.{◌≡◌, refl, sym, ◌∙◌}
-use mathlib.Core.Bool.{Bool, true, false, not}
+use mathlib.Core.Bool.{Bool, true, false}
 use Prim.Native.Nat.{ℕ, zero, suc, ◌-◌, ◌≤◌, ◌<◌}
 use native.Mathlib.Omega.{arith}
 use lib.Dec.{eqb}
-use borrow.Author.Tests.{not-true, not-false}
 use Rattle.base.specs.Tests.{pick}
 use Rattle.records.specs.Layout.{no_page}
 use Rattle.rules.specs.Rules.{linked}

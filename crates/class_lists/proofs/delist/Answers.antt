@@ -1,0 +1,7 @@
+use Rattle.chunks.specs.Mirror.{delisted}
+use borrow.Author.Rules.{rules}
+use Rattle.class_lists.proofs.delist.Goals as goal
+
+pub returns : goal.returns
+unfolding delisted
+returns c = rw (c.list_of.ensures, c.get_links-l.ensures) at c.unlink.ensures

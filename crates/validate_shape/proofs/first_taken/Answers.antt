@@ -1,0 +1,7 @@
+use Rattle.rules.specs.Rules.{first_taken, taken_run}
+use borrow.Author.Rules.{rules}
+use Rattle.validate_shape.proofs.first_taken.Goals as goal
+
+pub returns : goal.returns
+unfolding first_taken taken_run
+returns c = cc

@@ -1,0 +1,5 @@
+use borrow.Author.Rules.{rules}
+use Rattle.validate_shape.proofs.kind_before.Goals as goal
+
+pub returns : goal.returns
+returns c = cc

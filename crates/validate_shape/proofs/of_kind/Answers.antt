@@ -1,0 +1,21 @@
+use Rattle.validate_shape.proofs.Arms.{kinds}
+use borrow.Author.Rules.{rules}
+use Rattle.validate_shape.proofs.of_kind.Goals as goal
+
+pub returns-in-0 : goal.returns-in-0
+returns-in-0 c = search kinds
+
+pub returns-in-1 : goal.returns-in-1
+returns-in-1 c = search kinds
+
+pub returns-in-2 : goal.returns-in-2
+returns-in-2 c = search kinds
+
+pub returns-in-3 : goal.returns-in-3
+returns-in-3 c = search kinds
+
+pub returns-in-4 : goal.returns-in-4
+returns-in-4 c = search kinds
+
+pub returns-in_default : goal.returns-in_default
+returns-in_default c = search kinds
