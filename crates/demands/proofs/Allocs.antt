@@ -11,7 +11,7 @@ use Rattle.base.specs.Links.{head_or}
 use Rattle.base.proofs.Cases.{eq?, lt?}
 use Rattle.records.specs.Layout.{no_page}
 use Rattle.answers.specs.Outcome.{Outcome}
-use Rattle.model.specs.Classes.{chunk, lowest, class_of, pages_for, chunk_of, pages, need_of}
+use Rattle.model.specs.Classes.{lowest, class_of, pages_for, chunk_of, pages, need_of}
 use Rattle.model.specs.State.{Run, State, marks_of}
 use Rattle.model.specs.Runs.{fit}
 use Rattle.model.specs.Calls.{Reply, no_room, nothing_asked, refuse, tallied, alloc_run, cut_page, mark_chunk, alloc_chunk, alloc_for, alloc}

@@ -21,7 +21,7 @@ use Rattle.base.specs.Functions.{upd}
 use Rattle.model.specs.Classes.{chunk, chunks, own, has_taken, starts_chunk, Need, nothing, chunk_of, pages, need_of}
 use Rattle.model.specs.State.{Page, idle, slab, taken, inside, edge, State}
 use Rattle.model.specs.WellFormed.{ClassOk, WellFormed}
-use Rattle.model.specs.Calls.{Call, Alloc, Free, Answer, at, freed, no, no_room, outside, not_taken, not_aStart, nothing_asked, refuse, tallied, alloc_for, alloc, free_chunk, free_at, free, step}
+use Rattle.model.specs.Calls.{Call, Alloc, Free, Answer, at, freed, no, no_room, outside, not_taken, not_a_start, nothing_asked, refuse, tallied, alloc_for, alloc, free_chunk, free_at, free, step}
 use Rattle.model.specs.Live.{Block, offset, extent, Off, Live}
 use Rattle.model.specs.Effects.{Effect, FreeEffect}
 use Rattle.model.specs.View.{View, Kind, vacant, class, run_of, within, used_of, shown}
@@ -58,7 +58,7 @@ numbered_if true a b h k = h
 numbered_if false a b h k = k
 
 numbered : (v : View) (call : Call) → Numbered (ruling v call)
-unfolding ruling alloc_ruling free_ruling no_room outside not_taken not_aStart nothing_asked
+unfolding ruling alloc_ruling free_ruling no_room outside not_taken not_a_start nothing_asked
 numbered v (Alloc n) = go (need_of n)
   where
     go : (x : Need) → Numbered (alloc_ruling v x)
@@ -128,7 +128,7 @@ module _ (w : ℕ) (s : List ℕ) where
   refused_clears m p q k (slab c b) e = go (starts_chunk c q) (b (q / chunk c)) e
     where
       go : (t u : Bool) →
-          (cond t (cond u (record { answer = freed (chunk c); after = free_chunk m p c b (q / chunk c) }) (refuse m not_taken)) (refuse m not_aStart)).answer ≡ no k →
+          (cond t (cond u (record { answer = freed (chunk c); after = free_chunk m p c b (q / chunk c) }) (refuse m not_taken)) (refuse m not_a_start)).answer ≡ no k →
           cond t (cond u (cond (has_taken c (upd b (q / chunk c) false)) s (with_mark s (map_base w (pages_in w s) p c) (q / chunk c) false)) s) s ≡ s
       go true true e = absurd (never (cc))
       go true false e = refl

@@ -22,7 +22,7 @@ use Rattle.rules.specs.Read.{tally_of, read_fields}
 use Rattle.rules.specs.Bytes.{image_of, fields_of, broken_rule, read}
 use Rattle.drawing.proofs.Laws.{claims as laws-of}
 use Rattle.demands.specs.Calls.{outcome, after}
-use Rattle.demands.specs.Examples.{answers_on, slice_after, want, outcomes, tally, runs, seen, as_seen, Accepted, ExamplesOnBytes}
+use Rattle.demands.specs.Examples.{answers_on, slice_after, want, outcomes, runs, seen, as_seen, Accepted, ExamplesOnBytes}
 use Rattle.demands.proofs.Calls.{sound-answer, after-sound, after_read, demand1}
 
 -- ---- a list of calls on sound bytes

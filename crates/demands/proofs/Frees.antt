@@ -17,7 +17,7 @@ use Rattle.base.specs.Functions.{upd}
 use Rattle.model.specs.Classes.{chunk, chunks, own, has_taken, starts_chunk}
 use Rattle.model.specs.State.{Page, idle, slab, taken, inside, edge, State}
 use Rattle.model.specs.Runs.{starts_at}
-use Rattle.model.specs.Calls.{outside, not_taken, not_aStart, refuse, release, free_chunk, free_at, free}
+use Rattle.model.specs.Calls.{outside, not_taken, not_a_start, refuse, release, free_chunk, free_at, free}
 use Rattle.rules.specs.Bytes.{pages_in, map_base}
 use Rattle.rules.specs.Drawn.{links, free_links, page_links}
 use Rattle.run_neighbours.specs.Mirror.{pages_released}
@@ -51,7 +51,7 @@ module _ {w : ℕ} {s : List ℕ} {m : State} (F : FreeFacts w s m) where
   -- a chunk of a class page, q bytes in
   chunk_does : (p q c : ℕ) (b : ℕ → Bool) → p < P → q < 4096 → m.page p ≡ slab c b →
       Does w (cleared_at w s p q (slab c b)) (found_outcome w s P (class_found c p q)) (found_slice w s P (class_found c p q)) (free_at m p q (slab c b))
-  unfolding class_found offset_found sized_found start_found past_found chunk_outcome chunk_slice pick cleared_at free_at starts_chunk refuse not_taken not_aStart
+  unfolding class_found offset_found sized_found start_found past_found chunk_outcome chunk_slice pick cleared_at free_at starts_chunk refuse not_taken not_a_start
   chunk_does p q c b h l e = go (eq? (q % chunk c) 0) (lt? (q / chunk c) (own c)) (bool? (b (q / chunk c)))
     where
       c8 : c ≤ 8
@@ -83,7 +83,7 @@ module _ {w : ℕ} {s : List ℕ} {m : State} (F : FreeFacts w s m) where
 
   page_does : (p q : ℕ) → p < P → q < 4096 → (x : Page) → m.page p ≡ x →
       Does w (cleared_at w s p q x) (found_outcome w s P (kind_found p q (page_links m.runs m.lists p x))) (found_slice w s P (kind_found p q (page_links m.runs m.lists p x))) (free_at m p q x)
-  unfolding kind_found run_found pick cleared_at free_at refuse outside not_taken not_aStart free_links
+  unfolding kind_found run_found pick cleared_at free_at refuse outside not_taken not_a_start free_links
   page_does p q h l idle e = go (eq? (starts_at p m.runs) 0)
     where
       go : (starts_at p m.runs ≡ 0) ⊎ (starts_at p m.runs ≢ 0) →

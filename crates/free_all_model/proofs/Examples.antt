@@ -6,10 +6,10 @@ use Rattle.base.specs.Search.{least, any}
 use Rattle.model.specs.Classes.{chunk, chunks, own, lowest, has_clear, has_taken, new_marks, starts_chunk, class_of, pages_for, need_of}
 use Rattle.model.specs.State.{most}
 use Rattle.model.specs.Runs.{cut_front, clear_of, joined, join_runs}
-use Rattle.model.specs.Calls.{no_room, outside, not_taken, not_aStart, refuse, fresh, raise, asked, failed, alloc_run, tallied, cut_page, mark_chunk, alloc_chunk, alloc_for, alloc, release, relisted, keep_page, drop_page, free_chunk, free_at, free, step}
+use Rattle.model.specs.Calls.{no_room, outside, not_taken, not_a_start, refuse, fresh, raise, asked, failed, alloc_run, tallied, cut_page, mark_chunk, alloc_chunk, alloc_for, alloc, release, relisted, keep_page, drop_page, free_chunk, free_at, free, step}
 use Rattle.free_all_model.specs.FreeAll.{onward, completion_from, after_frees, whole_or_none, free_all}
 use Rattle.free_all_model.specs.Examples.{chunk_and_run, examples, ExamplesHold}
 
 pub examples_hold : ExamplesHold
-unfolding chunk chunks own lowest has_clear has_taken new_marks starts_chunk class_of pages_for need_of least any upd fill cut_front clear_of joined join_runs most raise asked failed tallied refuse no_room outside not_taken not_aStart fresh alloc_run cut_page mark_chunk alloc_chunk alloc_for alloc release others relisted keep_page drop_page free_chunk free_at free step onward completion_from after_frees whole_or_none free_all chunk_and_run examples
+unfolding chunk chunks own lowest has_clear has_taken new_marks starts_chunk class_of pages_for need_of least any upd fill cut_front clear_of joined join_runs most raise asked failed tallied refuse no_room outside not_taken not_a_start fresh alloc_run cut_page mark_chunk alloc_chunk alloc_for alloc release others relisted keep_page drop_page free_chunk free_at free step onward completion_from after_frees whole_or_none free_all chunk_and_run examples
 examples_hold = refl

@@ -11,7 +11,7 @@ use Rattle.base.proofs.Functions.{upd_same, upd_other, fill_in, fill_out}
 use Rattle.model.specs.Classes.{chunk, has_taken, starts_chunk}
 use Rattle.model.specs.State.{Page, idle, slab, taken, inside, edge, State}
 use Rattle.model.specs.WellFormed.{WellFormed}
-use Rattle.model.specs.Calls.{Free, freed, no, not_taken, not_aStart, refuse, release, keep_page, drop_page, free_chunk, free_at, free, step}
+use Rattle.model.specs.Calls.{Free, freed, no, not_taken, not_a_start, refuse, release, keep_page, drop_page, free_chunk, free_at, free, step}
 use Rattle.model.specs.Ruling.{granted, verdict}
 use Rattle.model.proofs.Classes.{chunk_start, chunk_index, none-taken, taken_at}
 use Rattle.model.proofs.Table.{slab_ok, taken_ok}
@@ -173,13 +173,13 @@ module _ (t : Trial) (ok : TrialOk t.page) (s : State) (agrees : (p : ℕ) → s
       go false h false b i j = rw (h, b)
   answer_at p q l (taken n) e = go (t.flag p) (eqb q 0) refl
     where
-      go : (f z : Bool) → eqb q 0 ≡ z → cond f (no not_taken) (cond (eqb q 0) (freed (4096 * n)) (no not_aStart)) ≡ (free_at s p q (cond f idle (taken n))).answer
+      go : (f z : Bool) → eqb q 0 ≡ z → cond f (no not_taken) (cond (eqb q 0) (freed (4096 * n)) (no not_a_start)) ≡ (free_at s p q (cond f idle (taken n))).answer
       go true z d = refl
       go false true d = rw d
       go false false d = rw d
   answer_at p q l inside e = go (t.flag (first_below t.page p))
     where
-      go : (f : Bool) → cond f (no not_taken) (no not_aStart) ≡ (free_at s p q (cond f idle inside)).answer
+      go : (f : Bool) → cond f (no not_taken) (no not_a_start) ≡ (free_at s p q (cond f idle inside)).answer
       go true = refl
       go false = refl
   answer_at p q l edge e = refl

@@ -4,7 +4,7 @@ use Rattle.std.specs.Prelude.{Bool, true, false, cond, List, [], ◌∷◌, ℕ,
 use Rattle.base.specs.Functions.{upd}
 use Rattle.model.specs.Classes.{chunk, has_taken, starts_chunk}
 use Rattle.model.specs.State.{Page, idle, slab, taken, inside, edge, State}
-use Rattle.model.specs.Calls.{Answer, freed, no, outside, not_taken, not_aStart}
+use Rattle.model.specs.Calls.{Answer, freed, no, outside, not_taken, not_a_start}
 use Rattle.free_all_model.specs.FreeAll.{Completion, done, onward}
 
 -- the tentative pages
@@ -47,11 +47,11 @@ tried_at t p q idle = no not_taken
 tried_at t p q (slab c m) =
     cond (starts_chunk c q)
     (cond (m (q / chunk c)) (freed (chunk c)) (no not_taken))
-    (cond (has_taken c m) (no not_aStart) (no not_taken))
+    (cond (has_taken c m) (no not_a_start) (no not_taken))
 tried_at t p q (taken n) =
     cond (t.flag p) (no not_taken)
-    (cond (eqb q 0) (freed (4096 * n)) (no not_aStart))
-tried_at t p q inside = cond (t.flag (first_below t.page p)) (no not_taken) (no not_aStart)
+    (cond (eqb q 0) (freed (4096 * n)) (no not_a_start))
+tried_at t p q inside = cond (t.flag (first_below t.page p)) (no not_taken) (no not_a_start)
 tried_at t p q edge = no outside
 
 unfoldable pub tried : Trial → ℕ → Answer

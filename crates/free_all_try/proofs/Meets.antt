@@ -18,7 +18,7 @@ use Rattle.answers.specs.declared.Refusal.TheVariants.{NotTaken, NotAStart}
 use Rattle.maps.specs.Bitmap.{mark}
 use Rattle.model.specs.Classes.{chunk, chunks, own, has_taken, starts_chunk}
 use Rattle.model.specs.State.{slab, taken, inside}
-use Rattle.model.specs.Calls.{freed, no, outside, not_taken, not_aStart}
+use Rattle.model.specs.Calls.{freed, no, outside, not_taken, not_a_start}
 use Rattle.model.specs.Ruling.{verdict}
 use Rattle.model.proofs.Classes.{chunk_start, chunk_index}
 use Rattle.rules.specs.Fields.{page_of}
@@ -39,8 +39,8 @@ pick-cond true x y = refl
 pick-cond false x y = refl
 
 -- off a block's start, by whether its page is released
-by-release : (b : Bool) → tried_verdict (pick b (tried.Refused NotTaken) (tried.Refused NotAStart)) ≡ verdict (cond b (no not_taken) (no not_aStart))
-unfolding pick not_taken not_aStart
+by-release : (b : Bool) → tried_verdict (pick b (tried.Refused NotTaken) (tried.Refused NotAStart)) ≡ verdict (cond b (no not_taken) (no not_a_start))
+unfolding pick not_taken not_a_start
 by-release true = refl
 by-release false = refl
 
@@ -74,8 +74,8 @@ module _ (w : ℕ) (s : List ℕ) where
 
   module _ (p c : ℕ) (freed-with : released w s P p ≡ not (has_taken c (mark_at w s p c))) where
     -- off a chunk's start, or at one of the map's own
-    off-is : tried_verdict (refused_tried w s P p NotAStart) ≡ verdict (cond (has_taken c (mark_at w s p c)) (no not_aStart) (no not_taken))
-    unfolding refused_tried off_start pick not_aStart not_taken
+    off-is : tried_verdict (refused_tried w s P p NotAStart) ≡ verdict (cond (has_taken c (mark_at w s p c)) (no not_a_start) (no not_taken))
+    unfolding refused_tried off_start pick not_a_start not_taken
     off-is = rw freed-with (go (has_taken c (mark_at w s p c)))
       where
         go : (b : Bool) → tried_verdict (pick (not b) (tried.Refused NotTaken) (tried.Refused NotAStart)) ≡ verdict (cond b (no 7) (no 6))
@@ -119,7 +119,7 @@ module _ (w : ℕ) (s : List ℕ) where
 
   run_is : (p n r q : ℕ) → shown_page w s p ≡ taken n → released w s P p ≡ flagged w s P p →
       tried_verdict (found_tried w s P p (run_found p r q)) ≡ verdict (tried_at (shown_trial w s) p q (taken n))
-  unfolding run_found run_tried refused_tried off_start tried_at pick not_taken not_aStart
+  unfolding run_found run_tried refused_tried off_start tried_at pick not_taken not_a_start
   run_is p n r q e f = go (eqb q 0) refl (sym (flag_is p n e))
     where
       live : (b : Bool) → tried_verdict (pick b (tried.Refused NotTaken) tried.Granted) ≡ verdict (cond b (no 6) (freed (4096 * n)))
@@ -155,7 +155,7 @@ module _ (w : ℕ) (s : List ℕ) where
         ap (flagged w s P) (first-is p (omega arith) ∙ y) ∙ flag_is r n first ∙ ap (shown_trial w s).flag (sym y)
 
     kind-is : (p q : ℕ) → p < P → q < 4096 → tried_verdict (found_tried w s P p (kind_found p q (links_at w s p))) ≡ verdict (tried_at (shown_trial w s) p q (shown_page w s p))
-    unfolding kind_found released kind_released refused_tried off_start shown_trial pick tried_at not_taken not_aStart
+    unfolding kind_found released kind_released refused_tried off_start shown_trial pick tried_at not_taken not_a_start
     kind-is p q h l = go (links_at w s p).kind refl (page-is w s p h)
       where
         go : (k : ℕ) → (links_at w s p).kind ≡ k → shown_page w s p ≡ page_of (links_at w s p).kind (links_at w s p).class (links_at w s p).run (mark_at w s p (links_at w s p).class) →

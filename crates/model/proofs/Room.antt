@@ -12,7 +12,7 @@ use Rattle.model.specs.Classes.{chunk, starts_chunk, need_of}
 use Rattle.model.specs.State.{Page, idle, slab, taken, inside, edge, Run, State, is_idle, is_open}
 use Rattle.model.specs.Runs.{fit}
 use Rattle.model.specs.WellFormed.{WellFormed}
-use Rattle.model.specs.Calls.{Alloc, Answer, at, freed, no, Reply, no_room, outside, not_taken, not_aStart, refuse, alloc_run, tallied, cut_page, mark_chunk, alloc_chunk, alloc_for, alloc, free_at, free, step}
+use Rattle.model.specs.Calls.{Alloc, Answer, at, freed, no, Reply, no_room, outside, not_taken, not_a_start, refuse, alloc_run, tallied, cut_page, mark_chunk, alloc_chunk, alloc_for, alloc, free_at, free, step}
 use Rattle.model.specs.View.{shown}
 use Rattle.model.specs.Ruling.{granted, refused, verdict, clear_in, page_in, run_in, alloc_ruling, ruling}
 use Rattle.model.specs.Claim.{NoChunk, ChunkRefused, ChunkRefusedShown, PagesRefused, PagesRefusedShown, Refusals}
@@ -132,9 +132,9 @@ module _ (s : State) where
   unfolding free_at
   free_leaves p q idle = refuse_leaves not_taken
   free_leaves p q (slab c m) =
-      cond_case Leaves (starts_chunk c q) (λ _. cond_case Leaves (m (q / chunk c)) (λ _. freed_leaves _ _) (λ _. refuse_leaves not_taken)) (λ _. refuse_leaves not_aStart)
-  free_leaves p q (taken n) = cond_case Leaves (eqb q 0) (λ _. freed_leaves _ _) (λ _. refuse_leaves not_aStart)
-  free_leaves p q inside = refuse_leaves not_aStart
+      cond_case Leaves (starts_chunk c q) (λ _. cond_case Leaves (m (q / chunk c)) (λ _. freed_leaves _ _) (λ _. refuse_leaves not_taken)) (λ _. refuse_leaves not_a_start)
+  free_leaves p q (taken n) = cond_case Leaves (eqb q 0) (λ _. freed_leaves _ _) (λ _. refuse_leaves not_a_start)
+  free_leaves p q inside = refuse_leaves not_a_start
   free_leaves p q edge = refuse_leaves outside
 
 pub refusals : (s : State) → Refusals s

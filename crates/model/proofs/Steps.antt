@@ -14,7 +14,7 @@ use Rattle.model.specs.Classes.{chunk, chunks, own, has_taken, starts_chunk, Nee
 use Rattle.model.specs.State.{Page, idle, slab, taken, inside, edge, Run, State}
 use Rattle.model.specs.Runs.{fit}
 use Rattle.model.specs.WellFormed.{WellFormed}
-use Rattle.model.specs.Calls.{Alloc, Free, freed, outside, not_taken, not_aStart, refuse, alloc_run, tallied, cut_page, mark_chunk, alloc_chunk, alloc_for, alloc, release, keep_page, drop_page, free_chunk, free_at, free, step}
+use Rattle.model.specs.Calls.{Alloc, Free, freed, outside, not_taken, not_a_start, refuse, alloc_run, tallied, cut_page, mark_chunk, alloc_chunk, alloc_for, alloc, release, keep_page, drop_page, free_chunk, free_at, free, step}
 use Rattle.model.specs.Live.{block_for}
 use Rattle.model.specs.Effects.{AllocEffect, FreeEffect, Effect, SlabsFrom}
 use Rattle.model.specs.Claim.{Kept, CallsKeep}
@@ -120,17 +120,17 @@ module _ (s : State) (wf : WellFormed s) where
   at-kept : (off : ℕ) (x : Page) → s.page (off / 4096) ≡ x → Kept s (FreeEffect off) (free_at s (off / 4096) (off % 4096) x)
   unfolding free_at
   at-kept off idle e = refused off not_taken
-  at-kept off inside e = refused off not_aStart
+  at-kept off inside e = refused off not_a_start
   at-kept off edge e = refused off outside
   at-kept off (taken n) e =
-      cond_case (Kept s (FreeEffect off)) (eqb (off % 4096) 0) (λ d. moved (omega (arith, eqb-true (off % 4096) 0 d))) (λ d. refused off not_aStart)
+      cond_case (Kept s (FreeEffect off)) (eqb (off % 4096) 0) (λ d. moved (omega (arith, eqb-true (off % 4096) 0 d))) (λ d. refused off not_a_start)
     where
       moved : 4096 * (off / 4096) ≡ off → Kept s (FreeEffect off) (record { answer = freed (4096 * n); after = release s (off / 4096) n })
       moved z = subst (λ (a : ℕ). Kept s (FreeEffect a) (record { answer = freed (4096 * n); after = release s (off / 4096) n })) z (run-freed (off / 4096) n e)
   at-kept off (slab c m) e =
       cond_case (Kept s (FreeEffect off)) (starts_chunk c (off % 4096))
       (λ d. cond_case (Kept s (FreeEffect off)) (m i) (λ g. let (z, o) = chunk_start c (off % 4096) d in moved z o g) (λ g. refused off not_taken))
-      (λ d. refused off not_aStart)
+      (λ d. refused off not_a_start)
     where
       i : ℕ
       i = off % 4096 / chunk c

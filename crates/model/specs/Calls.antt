@@ -34,8 +34,8 @@ outside = number_of Outside
 unfoldable pub not_taken : ℕ
 not_taken = number_of NotTaken
 
-unfoldable pub not_aStart : ℕ
-not_aStart = number_of NotAStart
+unfoldable pub not_a_start : ℕ
+not_a_start = number_of NotAStart
 
 unfoldable pub nothing_asked : ℕ
 nothing_asked = number_of NothingAsked
@@ -185,11 +185,11 @@ free_at s p q (slab c m) =
     cond (starts_chunk c q)
     (cond (m (q / chunk c)) (record { answer = freed (chunk c); after = free_chunk s p c m (q / chunk c) })
     (refuse s not_taken))
-    (refuse s not_aStart)
+    (refuse s not_a_start)
 free_at s p q (taken n) =
     cond (eqb q 0) (record { answer = freed (4096 * n); after = release s p n })
-    (refuse s not_aStart)
-free_at s p q inside = refuse s not_aStart
+    (refuse s not_a_start)
+free_at s p q inside = refuse s not_a_start
 free_at s p q edge = refuse s outside
 
 unfoldable pub free : (s : State) (off : ℕ) → Reply

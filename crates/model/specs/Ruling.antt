@@ -2,7 +2,7 @@
 use Rattle.std.specs.Prelude.{Bool, cond, ◌&&◌, ◌||◌, not, ℕ, ◌*◌, ◌/◌, ◌%◌, eqb, leb}
 use Rattle.base.specs.Search.{any}
 use Rattle.model.specs.Classes.{chunk, chunks, starts_chunk, Need, nothing, chunk_of, pages, need_of}
-use Rattle.model.specs.Calls.{Call, Alloc, Free, Answer, at, freed, no, no_room, outside, not_taken, not_aStart, nothing_asked}
+use Rattle.model.specs.Calls.{Call, Alloc, Free, Answer, at, freed, no, no_room, outside, not_taken, not_a_start, nothing_asked}
 use Rattle.model.specs.View.{Kind, vacant, class, run_of, within, View, is_vacant, is_class}
 
 pub data Verdict : Type 0 where
@@ -37,9 +37,9 @@ free_ruling v p q vacant = refused not_taken
 free_ruling v p q (class c) =
     cond (starts_chunk c q)
     (cond (v.mark p (q / chunk c)) granted (refused not_taken))
-    (refused not_aStart)
-free_ruling v p q (run_of n) = cond (eqb q 0) granted (refused not_aStart)
-free_ruling v p q within = refused not_aStart
+    (refused not_a_start)
+free_ruling v p q (run_of n) = cond (eqb q 0) granted (refused not_a_start)
+free_ruling v p q within = refused not_a_start
 
 -- the offset lies past the last page
 unfoldable pub past_end : (v : View) (off : ℕ) → Bool

@@ -12,7 +12,7 @@ use Rattle.base.specs.Functions.{upd}
 use Rattle.base.proofs.Cases.{never, clash, lt?, eq?}
 use Rattle.model.specs.Classes.{chunk, chunks, has_taken, starts_chunk}
 use Rattle.model.specs.State.{idle, slab, taken, inside, edge}
-use Rattle.model.specs.Calls.{freed, outside, not_taken, not_aStart, refuse, free_chunk, free_at, free}
+use Rattle.model.specs.Calls.{freed, outside, not_taken, not_a_start, refuse, free_chunk, free_at, free}
 use Rattle.model.specs.WellFormed.{WellFormed}
 use Rattle.model.proofs.Table.{in_table, taken_ok}
 use Rattle.plain.specs.Plain.{Plain, Shaped, entry_at, mark_of, page_of, page_at, read_plain}
@@ -56,7 +56,7 @@ module _ (s : Plain) (b : List ℕ) (sh : Shaped s b) (wf : WellFormed (read_pla
 
       go : (x : Bool) → starts_chunk c q ≡ x → (y : Bool) → m i ≡ y → (z : Bool) → has_taken c (upd m i false) ≡ z
           → Meets free_answer (free_chunk_at s b p c q) (free_chunk_bytes b p c q) (free_at (read_plain s b) p q (slab c m))
-      go false e y f z g = rw e (unfold not_aStart in refusal s b 7 (λ d. omega arith))
+      go false e y f z g = rw e (unfold not_a_start in refusal s b 7 (λ d. omega arith))
       go true e false f z g = rw (e, f) (unfold not_taken in refusal s b 6 (λ d. omega arith))
       go true e true f true g =
           rw (e, f, cleared (in_page f)) (unfold free_chunk in unfold chunk_freed in rw g (record { answers = unfold free_answer in unfold granted in refl; leaves = unfold granted in chunk_back_lem s b sh wf p c page i (in_page f) }))
@@ -116,7 +116,7 @@ module _ (s : Plain) (b : List ℕ) (sh : Shaped s b) (wf : WellFormed (read_pla
             answers = unfold free_answer in unfold granted in unfold pick in ap freed (small (4096 * n) (omega (arith, ends)));
             leaves = unfold granted in pages_freed_lem s b sh wf p n some ends not_free not-class;
           })
-      go false e = rw e (unfold not_aStart in refusal s b 7 (λ d. omega arith))
+      go false e = rw e (unfold not_a_start in refusal s b 7 (λ d. omega arith))
 
 -- ---- free
 
@@ -139,7 +139,7 @@ module _ (s : Plain) (b : List ℕ) (sh : Shaped s b) (wf : WellFormed (read_pla
           rw (shows false true z d e f, d, e)
           (free_chunk_lem s b sh wf p (entry_at s p).class q (class_page_lem s b p (entry_at s p).class (mark_of b p (entry_at s p).class) (shows false true z d e f)).0)
       go false d false e true f = rw (shows false false true d e f, d, e, f) (free_run_lem s b sh wf p (entry_at s p).run q (shows false false true d e f))
-      go false d false e false f = rw (shows false false false d e f, d, e, f) (unfold free_at in unfold not_aStart in refusal s b 7 (λ x. omega arith))
+      go false d false e false f = rw (shows false false false d e f, d, e, f) (unfold free_at in unfold not_a_start in refusal s b 7 (λ x. omega arith))
 
   free_at_lem : Meets free_answer (free_in s b p q) (free_in_bytes s b p q) (free_at (read_plain s b) p q (page_at s b p))
   unfolding free_in free_in_bytes pick

@@ -1,1 +1,1 @@
-pub mod Judged  -- the loops over the lent table
+pub mod Judged  -- the loop that tries the entries of the lent table

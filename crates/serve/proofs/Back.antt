@@ -162,13 +162,23 @@ module _ (w : ℕ) (s : List ℕ) (P : ℕ) where
       (λ h. by_case FoundBack (eqb (q % chunk c) 0)
       (λ _. by_case FoundBack (ltb i (own c)) (λ _. no_start) (λ _. chunk_back_lem c p (i % 512) (leb-true c 8 h))) (λ _. no_start)) (λ _. no_start)
 
+  run_back : (p n q : ℕ) → n < 1048576 → FoundBack (run_found p n q)
+  unfolding run_found
+  run_back p n q h = by_case FoundBack (eqb q 0) (λ _. bytes_back (4096 * n) (omega arith)) (λ _. no_start)
+
+  kind_back : (p q : ℕ) (l : Links) → l.run < 1048576 → FoundBack (kind_found p q l)
+  unfolding kind_found
+  kind_back p q l h =
+      by_case FoundBack (leb l.kind 1) (λ _. not_taken)
+      (λ _. by_case FoundBack (eqb l.kind 2) (λ _. in_class l.class p q)
+      (λ _. by_case FoundBack (eqb l.kind 3) (λ _. run_back p l.run q h) (λ _. no_start)))
+
+  run_few : (p : ℕ) → (links_at w s p).run < 1048576
+  unfolding links_at unpack_links
+  run_few p = omega arith
+
   pub free_back : (off : ℕ) → FreeBack (free_outcome w s P off)
-  unfolding run_found kind_found page_found located free_outcome links_at unpack_links
+  unfolding page_found located free_outcome
   free_back off =
       let p : ℕ = off / 4096 % 65536 in
-      let q : ℕ = off % 4096 in
-      let l : Links = links_at w s p in
-      by_case FoundBack (leb P (off / 4096)) (λ _. outside)
-      (λ _. by_case FoundBack (leb l.kind 1) (λ _. not_taken)
-      (λ _. by_case FoundBack (eqb l.kind 2) (λ _. in_class l.class p q)
-      (λ _. by_case FoundBack (eqb l.kind 3) (λ _. by_case FoundBack (eqb q 0) (λ _. bytes_back _ (omega arith)) (λ _. no_start)) (λ _. no_start))))
+      by_case FoundBack (leb P (off / 4096)) (λ _. outside) (λ _. kind_back p (off % 4096) (links_at w s p) (run_few p))

@@ -91,11 +91,14 @@ fn pools_of_all_sizes_and_both_editions() {
 
 /// What the proved report program prints.
 fn proved(folder: &Folder) -> String {
-    let path = root().join("target/bin/pool_report");
+    let path = root().join("crates/pool_report/out/pool_report");
     let image = File::open(folder.path("pool")).expect("an image");
     let output = Command::new(&path).stdin(image).output();
     let output = output.unwrap_or_else(|error| {
-        panic!("{}: {error}: run `rt check pool_report`", path.display());
+        panic!(
+            "{}: {error}: run `rt run` in crates/pool_report",
+            path.display()
+        );
     });
     String::from_utf8(output.stdout).expect("plain text")
 }

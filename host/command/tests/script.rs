@@ -10,11 +10,14 @@ use support::{Habit, Rng, UNREADABLE};
 
 /// What the proved program prints for the script in a file.
 fn proved(folder: &Folder) -> String {
-    let path = root().join("target/bin/pool_main");
+    let path = root().join("crates/pool_main/out/pool_main");
     let script = File::open(folder.path("script")).expect("a script");
     let output = Command::new(&path).stdin(script).output();
     let output = output.unwrap_or_else(|error| {
-        panic!("{}: {error}: run `rt check pool_main`", path.display());
+        panic!(
+            "{}: {error}: run `rt run` in crates/pool_main",
+            path.display()
+        );
     });
     String::from_utf8(output.stdout).expect("plain text")
 }

@@ -2,7 +2,7 @@
 //! level. In the repository's root:
 //!
 //! ```text
-//! rt staticlib danumrikal
+//! (cd crates/danumrikal && rt lib)
 //! cargo run --offline --manifest-path host/Cargo.toml -p danumrikal --example panel
 //! ```
 

@@ -2,9 +2,9 @@
 //!
 //! A [`Pool`] is lent bytes. Every call takes them, whatever they hold, and
 //! answers: nothing has to be checked first. The work is done by the static
-//! library that `rt staticlib danumrikal` builds of the proved crates; this
-//! crate declares its functions, takes their answers apart and finds a block's
-//! bytes, which is tested and not proved. `docs/SPEC.md` has all rules.
+//! library that `rt lib` builds of the proved crates, in `crates/danumrikal`;
+//! this crate declares its functions, takes their answers apart and finds a
+//! block's bytes, which is tested and not proved. `docs/SPEC.md` has all rules.
 //!
 //! ```
 //! use danumrikal::{Edition, Pool, Refusal};

@@ -46,7 +46,7 @@ fn build_and_run(compiler: &[&str], source: &Path, name: &str) -> String {
         .arg(root().join("include"))
         .arg(source)
         .args(["-x", "none"])
-        .arg(root().join("target/staticlib/libdanumrikal.a"))
+        .arg(root().join("crates/danumrikal/out/libdanumrikal.a"))
         .arg("-o")
         .arg(&program));
     run(&mut Command::new(program))

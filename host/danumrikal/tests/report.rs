@@ -22,10 +22,10 @@ fn root() -> PathBuf {
 
 /// Runs the program on an image and answers what it printed.
 fn program(image: &[u8]) -> Vec<u8> {
-    let path = root().join("target/bin/pool_report");
+    let path = root().join("crates/pool_report/out/pool_report");
     assert!(
         path.exists(),
-        "{} is missing: run `rt check pool_report` in the repository's root",
+        "{} is missing: run `rt run` in crates/pool_report",
         path.display()
     );
     let mut child = Command::new(path)

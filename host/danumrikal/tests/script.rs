@@ -24,11 +24,13 @@ fn program(input: &[u8]) -> Vec<u8> {
 /// Runs a program on an input and answers what it printed.
 fn run(name: &str, input: &[u8]) -> Vec<u8> {
     let path = Path::new(env!("CARGO_MANIFEST_DIR"))
-        .join("../../target/bin")
+        .join("../../crates")
+        .join(name)
+        .join("out")
         .join(name);
     assert!(
         path.exists(),
-        "{} is missing: run `rt check {name}` in the repository's root",
+        "{} is missing: run `rt run` in crates/{name}",
         path.display()
     );
     let mut child = Command::new(path)
