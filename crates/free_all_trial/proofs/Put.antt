@@ -182,6 +182,9 @@ module _ (w : ℕ) (s : List ℕ) (R : Room w s) (ok : TrialOk (shown_page w s))
   unfolding put_mark_at tentative_at shown_trial
   put-at p q l (slab c m) e (b, k) = chunk-put w s R p c (q / chunk c) m e (chunk-low p c q m e l b) false
   put-at p q l (taken n) e (f, d) = run_put w s R p n e true
+  put-at p q l edge e x5 = elim x5 [ ]
+  put-at p q l inside e x4 = elim x4 [ ]
+  put-at p q l idle e x3 = elim x3 [ ]
 
   back_at : (p q : ℕ) → q < 4096 → (x : Page) → shown_page w s p ≡ x → GrantedAt (shown_trial w s) p q x →
       put_mark_at true w (put_mark_at false w s p q x) p q (shown_page w (put_mark_at false w s p q x) p) ≡ s
@@ -198,6 +201,9 @@ module _ (w : ℕ) (s : List ℕ) (R : Room w s) (ok : TrialOk (shown_page w s))
       let flagged : List ℕ = with_mark s (8 * map_place w p) 0 true in
       ap (λ (x : Page). put_mark_at true w flagged p q x) (run-page w s R p n e true)
       ∙ with_mark-back s (8 * map_place w p) 0 true false R.bytes (rw e at f)
+  back_at p q l edge e x5 = elim x5 [ ]
+  back_at p q l inside e x4 = elim x4 [ ]
+  back_at p q l idle e x3 = elim x3 [ ]
 
   pub put-shown : (off : ℕ) → verdict (tried (shown_trial w s) off) ≡ granted → shown_trial w (put_mark false w s off) ≡ tentative (shown_trial w s) off
   unfolding put_mark tentative tried shown_trial

@@ -28,7 +28,6 @@ use Rattle.free_all_model.proofs.Settled.{TrialOk, first_below_lem}
 use Rattle.free_all_trial.specs.Mirror.{shown_page, shown_trial}
 use Rattle.free_all_trial.proofs.Changed.{page-is, page-none}
 use Rattle.free_all_trial.proofs.Put.{mark-low}
-use Rattle.locate.specs.declared.Found.TheVariants as found
 use Rattle.locate.specs.Mirror.{past_found, start_found, sized_found, offset_found, class_found, run_found, kind_found, page_found, located}
 use Rattle.free_all_try.specs.declared.Tried.TheVariants as tried
 use Rattle.free_all_try.specs.Mirror.{held_at, unheld_at, emptied, flagged, first_kind, inner_flagged, kind_released, released, off_start, refused_tried, run_tried, chunk_tried, found_tried, offset_tried, tried_verdict}

@@ -41,6 +41,7 @@ keep_ascends q a (p ∷ ps) h = go (q p) (keep_ascends q (suc p) ps h.1)
 above : (a p : ℕ) (ps : List ℕ) → Ascending a ps → Mem p ps → a ≤ p
 above a p (x ∷ ps) h (inl e) = omega (arith, h.0)
 above a p (x ∷ ps) h (inr m) = omega (arith, h.0, above (suc x) p ps h.1 m)
+above a p [] h x'' = elim x'' [ ]
 
 pub ascends_once : (a : ℕ) (ps : List ℕ) → Ascending a ps → NoDup ps
 ascends_once a [] h = tt

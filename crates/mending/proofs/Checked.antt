@@ -20,7 +20,6 @@ use Rattle.answers.proofs.Refusals.{number_counts}
 use Rattle.model.specs.Classes.{chunks}
 use Rattle.model.specs.State.{Page}
 use Rattle.model.specs.Live.{Block, Live}
-use Rattle.maps.specs.Bitmap.{mark}
 use Rattle.maps.proofs.Marks.{mark_byte}
 use Rattle.rules.specs.Fields.{Fields, class, page_at}
 use Rattle.rules.specs.Read.{read_fields}

@@ -1,0 +1,9 @@
+use Rattle.base.proofs.Tests.{pick_on, pick-off}
+use Rattle.mend_order.proofs.Lists.{last_open}
+use Rattle.mend_order.proofs.class_prev.Goals as goal
+
+pub returns-then-is_open : goal.returns-then-is_open
+returns-then-is_open c = pick_on _ _ _ _ c.is_open.ensures c.if-is_open.true (last_open _ _ _ _ _ c.last_below.ensures)
+
+pub returns : goal.returns
+returns c = pick-off _ _ _ _ c.is_open.ensures c.if-is_open.false c.run_start.ensures
