@@ -47,7 +47,7 @@ module _ (w : ℕ) where
   all_valid : {s : List ℕ} {pages : ℕ} → Validated w s pages → (xs : List ℕ) → Validated w (left_by_all w s xs) pages
   unfolding left_by_all
   all_valid G [] = G
-  all_valid G (x ∷ xs) = all_valid (stays_valid G x) xs
+  all_valid {s = s} {pages = pages} G (x ∷ xs) = all_valid {s = left_by w s x} {pages = pages} (stays_valid G x) xs
 
   module _ (wide : 2 ≤ w) (narrow : w ≤ 255) (s : List ℕ) (B : Bytes s) where
     module _ (sound : broken_rule w s ≡ 0) where
@@ -133,7 +133,7 @@ module _ (w : ℕ) (wide : 2 ≤ w) (narrow : w ≤ 255) (s : List ℕ) (C : Byt
   all-fed : {B : List Block} {u : List ℕ} → Reached w s B u → (xs rest : List ℕ) → Reached w s (fed_all B xs (replies w u xs ++ rest)) (left_by_all w u xs)
   unfolding replies left_by_all reply_to left_by
   all-fed R [] rest = R
-  all-fed {B} {u} R (x ∷ xs) rest = all-fed (one_fed R (call_in x)) xs rest
+  all-fed {B} {u} R (x ∷ xs) rest = all-fed {B = fed_with B (call_in x) (outcome_in (word_of (outcome_on w u (call_in x))))} {u = slice_on w u (call_in x)} (one_fed R (call_in x)) xs rest
 
 pub claims : Claims
 claims w wide narrow s C = record {

@@ -55,5 +55,5 @@ module _ {w pages : ℕ} where
   all-served G [] = (refl, refl)
   all-served {s} G (x ∷ xs) =
       let one = served G x in
-      let rest = all-served (stays_valid G x) xs in
+      let rest = all-served {s = left_by w s x} (stays_valid G x) xs in
       (rw (one.0, one.1) (ap (λ (l : List ℕ). reply_to w s x ∷ l) rest.0), rw one.1 rest.1)

@@ -1,5 +1,5 @@
 -- The list tried in code is the list tried on bytes, and taking back what was granted gives the slice at entry.
-use mathlib.Core.Path.{◌≡◌, refl, sym, ap, ◌∙◌}
+use mathlib.Core.Path.{subst, ◌≡◌, refl, sym, ap, ◌∙◌}
 use mathlib.Core.Bool.{true, false}
 use mathlib.Core.List.{List, [], ◌∷◌}
 use Prim.Native.Nat.{ℕ, zero, suc, ◌+◌, ◌≤◌}
@@ -109,4 +109,12 @@ all_back w s T k (off ∷ offs) n e = go (offset_tried w s (pages_in w s) off) r
         let y : granted_of (list_tried w (offset_put false w s P off) P (suc k) offs) (suc k + length offs) ≡ k + suc n = rw (e, z) at h in
         let there : granted_of (list_tried w t P (suc k) offs) (suc k + length offs) ≡ suc k + n = (rw (put_of w s T off g) at y) ∙ omega arith in
         let back : list_back w (list_marked w t P offs) P (take n offs) ≡ t = rw (same_pages w s T off) at (ih g n (rw (same_pages w s T off) there)) in
-        rw (e, put_of w s T off g) (ap (λ (u : List ℕ). offset_put true w u P off) back ∙ taken_back w s T off g)
+        let marked : List ℕ = list_marked w (offset_put false w s P off) P offs in
+        let on : on_marked (offset_tried w s P off) marked s ≡ marked = rw e refl in
+        subst
+        (λ (u : List ℕ). list_back w u P (take (suc n) (off ∷ offs)) ≡ s)
+        (sym on)
+        (subst
+        (λ (u : List ℕ). offset_put true w (list_back w (list_marked w u P offs) P (take n offs)) P off ≡ s)
+        (sym (put_of w s T off g))
+        (ap (λ (u : List ℕ). offset_put true w u P off) back ∙ taken_back w s T off g))

@@ -1,3 +1,2 @@
 // A list of frees, done or refused, moves no peak. There is no code.
 #![tactic(auto)]
-

@@ -7,7 +7,7 @@ use Rattle.answers.specs.Outcome.{Outcome}
 use Rattle.model.specs.Calls.{Call}
 use Rattle.format.specs.Format.{shortest, too_long, formatted}
 use Rattle.rules.specs.Bytes.{pages_in}
-use Rattle.demands.specs.Calls.{answered, after}
+use Rattle.demands.specs.Calls.{answered}
 use Rattle.demands.specs.Demands.{Turn, Allowed, played}
 use Rattle.plain.specs.Plain.{page_count, no_counts}
 use Rattle.plain.specs.declared.Extent.{Extent}

@@ -15,7 +15,7 @@ use Rattle.model.specs.Live.{small, large, chunks_on, blocks_on, blocks_below, b
 use Rattle.maps.specs.Bitmap.{mark}
 use Rattle.records.specs.Page.{links_at}
 use Rattle.records.specs.declared.Links.{Links}
-use Rattle.rules.specs.Fields.{kind, class, run, page_of, page_at}
+use Rattle.rules.specs.Fields.{page_of, page_at}
 use Rattle.rules.specs.Read.{read_fields}
 use Rattle.rules.specs.Bytes.{pages_in, map_base, mark_at, image_of, fields_of, read}
 use Rattle.rules.proofs.Judged.{judged}

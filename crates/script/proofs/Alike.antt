@@ -54,12 +54,12 @@ module _ (s : List ℕ) (m : State) (S : Shows s m) where
 
 replies-alike : (s : List ℕ) (m : State) → Shows s m → (ls : List (List ℕ)) → replies_on s ls ≡ replies m ls
 replies-alike s m S [] = refl
-replies-alike s m S (l ∷ ls) = rw (reply-alike s m S (request l), replies-alike _ _ (next-alike s m S (request l)) ls)
+replies-alike s m S (l ∷ ls) = rw (reply-alike s m S (request l), replies-alike (next_on s (request l)) (next m (request l)) (next-alike s m S (request l)) ls)
 
 final-alike : (s : List ℕ) (m : State) → Shows s m → (ls : List (List ℕ)) → Shows (final_on s ls) (final m ls)
 unfolding final_on
 final-alike s m S [] = S
-final-alike s m S (l ∷ ls) = final-alike _ _ (next-alike s m S (request l)) ls
+final-alike s m S (l ∷ ls) = final-alike (next_on s (request l)) (next m (request l)) (next-alike s m S (request l)) ls
 
 -- ---- the last line
 

@@ -1,0 +1,7 @@
+use Rattle.plain_decide.proofs.Lending.{lent_free}
+use Rattle.plain_engine.proofs.free.Goals as goal
+
+pub returns : goal.returns
+returns c =
+    lent_free _ _ _ _ _ _ _ _ _ c.if-runs-lt12.false (rw c.pages_of-pages.ensures at c.table_ok-ok.ensures) c.free-d.ensures
+    (rw (c.first_of-p.ensures, c.len_of-k.ensures) at c.release.ensures) c.answer_of.ensures
