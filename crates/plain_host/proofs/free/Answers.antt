@@ -1,0 +1,6 @@
+use Rattle.std.proofs.Common.{arith}
+use Rattle.plain_host.proofs.Loan.{loan_served}
+use Rattle.plain_host.proofs.free.Goals as goal
+
+pub returns : goal.returns
+returns c = loan_served _ _ _ _ _ _ c.free-a.result _ _ c.kept_in-kept.ensures c.runs_in-runs.ensures (omega arith) c.free-a.ensures c.reply_with.ensures
