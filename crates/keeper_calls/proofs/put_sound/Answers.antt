@@ -23,3 +23,18 @@ returns-then-directory-i c =
 pub put_in-requires : goal.put_in-requires
 put_in-requires c = let placed = c.place_for-i.ensures in
     (c.requires, rw placed (putting c.args.w c.args.pool.now c.args.directory.now c.args.key c.args.bytes.now (ready-both _ _ _ c.requires) c.if-bytes-eq0.false c.if-bytes-gt-MOST_BYTES.false (rw placed at c.if-directory-i.false)))
+
+pub returns-clause-answer : goal.returns-clause-answer
+returns-clause-answer c = let placed = c.place_for-i.ensures in
+    let q = told (put-placed c.args.w c.args.pool.now c.args.directory.now c.args.key c.args.bytes.now (ready-both _ _ _ c.requires) c.if-bytes-eq0.false c.if-bytes-gt-MOST_BYTES.false (rw placed at c.if-directory-i.false)) in
+    (rw placed at c.put_in.ensures.answer) ∙ q.0
+
+pub returns-clause-pool : goal.returns-clause-pool
+returns-clause-pool c = let placed = c.place_for-i.ensures in
+    let q = told (put-placed c.args.w c.args.pool.now c.args.directory.now c.args.key c.args.bytes.now (ready-both _ _ _ c.requires) c.if-bytes-eq0.false c.if-bytes-gt-MOST_BYTES.false (rw placed at c.if-directory-i.false)) in
+    (rw placed at c.put_in.ensures.pool) ∙ q.1.0
+
+pub returns-clause-directory : goal.returns-clause-directory
+returns-clause-directory c = let placed = c.place_for-i.ensures in
+    let q = told (put-placed c.args.w c.args.pool.now c.args.directory.now c.args.key c.args.bytes.now (ready-both _ _ _ c.requires) c.if-bytes-eq0.false c.if-bytes-gt-MOST_BYTES.false (rw placed at c.if-directory-i.false)) in
+    (rw placed at c.put_in.ensures.directory) ∙ q.1.1
