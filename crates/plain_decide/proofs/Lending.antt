@@ -2,7 +2,7 @@
 use mathlib.Core.Path.{◌≡◌, refl, sym, ap, ◌∙◌, subst}
 use mathlib.Core.Bool.{Bool}
 use mathlib.Core.List.{List, ◌++◌}
-use Prim.Native.Nat.{ℕ, ◌≤◌}
+use Prim.Native.Nat.{ℕ, ◌≤◌, ◌<◌}
 use native.Mathlib.Omega.{arith}
 use lib.Dec.{eqb}
 use lib.ListN.{length, get_or, take, drop, length-set}
@@ -18,7 +18,10 @@ use Rattle.plain.proofs.Loops.{length-remade}
 use Rattle.plain.proofs.Shapes.{either, length-pushed}
 use Rattle.plain_rules.specs.Mirror.{table_ok}
 use Rattle.plain_decide.specs.Calls.{Serves, seen, Lent}
-use Rattle.plain_decide.specs.Mirror.{AllocDecides, FreeDecides}
+use Rattle.plain_decide.specs.Mirror.{AllocDecides, FreeDecides, short_of}
+
+pub lent_few : (s : Kept) (t : List Extent) (b : List ℕ) (call : Call) (r : Answer) → length t < 12 → r ≡ short_of s → Lent s t b call r t b
+lent_few s t b call r h e = record { few = λ l. (e, refl, refl); served = λ l. absurd (omega arith); behind = refl; kept = refl }
 
 -- ---- a table of 12 entries or more: its first 12 become the table x
 

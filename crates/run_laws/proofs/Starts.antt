@@ -52,7 +52,7 @@ starts-carve k (y ∷ ys) r e once = go (leb k y.len) e (starts-carve k ys r)
     go true e ih =
         let q : y ≡ r = cc in
         let kept : keep (others y.start) (starts (y ∷ ys)) ≡ starts ys =
-            rw (eq-eqb y.start y.start refl) (keep_every (others y.start) (starts ys) (λ x m. rw (ne_eqb x y.start (λ d. once.0 (rw (← d) m))))) in
+        rw (eq-eqb y.start y.start refl) (keep_every (others y.start) (starts ys) (λ x m. rw (ne_eqb x y.start (λ d. once.0 (rw (← d) m))))) in
         subst
         (λ (x : Run). starts (cut_front k y ++ ys) ≡ cond (ltb k x.len) (replace x.start (x.start + k) (starts (y ∷ ys))) (keep (others x.start) (starts (y ∷ ys))))
         q

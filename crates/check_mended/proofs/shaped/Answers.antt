@@ -41,8 +41,8 @@ returns-clause-counters c = let k = c.scan.ensures in
     let f = c.if-not-scan.false in
     let t = f in
     λ z. record {
-        pages = c.requires.0;
-        most = few c.args.w c.args.pool.now c.args.n c.requires.0 _ c.header_fits.ensures c.if-not-header_fits.false;
-        fits = sym k.answer ∙ t;
-        counted = k.counters t;
-      }
+      pages = c.requires.0;
+      most = few c.args.w c.args.pool.now c.args.n c.requires.0 _ c.header_fits.ensures c.if-not-header_fits.false;
+      fits = sym k.answer ∙ t;
+      counted = k.counters t;
+    }

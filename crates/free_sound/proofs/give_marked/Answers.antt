@@ -9,8 +9,8 @@ get_mark_in-requires c = mark_in _ c.args.pool.now _ _ _ _ c.map_word-k.ensures.
 pub returns-then-not-get_mark_in : goal.returns-then-not-get_mark_in
 returns-then-not-get_mark_in c =
     let all =
-        let place = c.map_word-k.ensures.answer in
-        not-marked _ _ _ _ _ _ place _ _ (chunk-told _ _ _ _ _ _ place _ _ c.requires.2 c.get_mark_in.ensures) c.if-not-get_mark_in.true in
+    let place = c.map_word-k.ensures.answer in
+    not-marked _ _ _ _ _ _ place _ _ (chunk-told _ _ _ _ _ _ place _ _ c.requires.2 c.get_mark_in.ensures) c.if-not-get_mark_in.true in
     record { answer = all.0; slice = all.1 }
 
 pub free_chunk-requires : goal.free_chunk-requires
@@ -27,6 +27,6 @@ free_chunk-requires c = let s = c.args.pool.now in
 pub returns : goal.returns
 returns c =
     let all =
-        let place = c.map_word-k.ensures.answer in
-        given_back _ _ _ _ _ _ place _ _ (chunk-told _ _ _ _ _ _ place _ _ c.requires.2 c.get_mark_in.ensures) _ _ c.if-not-get_mark_in.false c.bytes_of.ensures c.free_chunk.ensures in
+    let place = c.map_word-k.ensures.answer in
+    given_back _ _ _ _ _ _ place _ _ (chunk-told _ _ _ _ _ _ place _ _ c.requires.2 c.get_mark_in.ensures) _ _ c.if-not-get_mark_in.false c.bytes_of.ensures c.free_chunk.ensures in
     record { answer = all.0; slice = all.1 }

@@ -41,12 +41,11 @@ pub loop-i-smaller : goal.loop-i-smaller
 loop-i-smaller c = omega arith
 
 pub loop-i-preserved : goal.loop-i-preserved
-loop-i-preserved c = let l = c.loop-i in
-    (
-      l.invariant.0,
-      omega arith,
-      bit-set c.args.pool.now _ c.search.j _ c.get_byte-b.ensures l.i c.loop-i-test.true _ c.bit_at.ensures l.invariant.2 c.if-not-bit_at.false,
-    )
+loop-i-preserved c = let l = c.loop-i in (
+  l.invariant.0,
+  omega arith,
+  bit-set c.args.pool.now _ c.search.j _ c.get_byte-b.ensures l.i c.loop-i-test.true _ c.bit_at.ensures l.invariant.2 c.if-not-bit_at.false,
+)
 
 pub overflow_add-j : goal.overflow_add-j
 overflow_add-j c = omega arith
@@ -62,26 +61,26 @@ pub returns-then-hit-n : goal.returns-then-hit-n
 returns-then-hit-n c =
     -- where the two ways out meet: the bytes have run out, or one hit has ended both loops
     let stopped : Stopped c.args.pool.now c.args.base c.args.n c.search-test.hit =
-        elim c.search-test.branch [
-          else-search-test w ↦
-            let e : c.search-test.hit ≡ c.args.n = w.hit-is ∙ c.search.invariant.0 in
-            rw e (search_done c.args.pool.now _ c.args.n c.search.j (omega (arith, w.search-test.false)) c.search.invariant.1)
-        | then-search-test+then-loop-i-test+then-not-bit_at w ↦
-            rw w.hit-is
-            (bit_clear c.args.pool.now _ c.search.j _ w.get_byte-b.ensures w.loop-i.i w.loop-i-test.true _ w.bit_at.ensures c.args.n w.loop-i.invariant.2 w.if-not-bit_at.true)
-        ] in
+    elim c.search-test.branch [
+      | else-search-test w ↦
+          let e : c.search-test.hit ≡ c.args.n = w.hit-is ∙ c.search.invariant.0 in
+          rw e (search_done c.args.pool.now _ c.args.n c.search.j (omega (arith, w.search-test.false)) c.search.invariant.1)
+      | then-search-test+then-loop-i-test+then-not-bit_at w ↦
+          rw w.hit-is
+          (bit_clear c.args.pool.now _ c.search.j _ w.get_byte-b.ensures w.loop-i.i w.loop-i-test.true _ w.bit_at.ensures c.args.n w.loop-i.invariant.2 w.if-not-bit_at.true)
+    ] in
     search_hit _ _ _ _ stopped c.if-hit-n.true
 
 pub returns-else-hit-n : goal.returns-else-hit-n
 returns-else-hit-n c =
     -- where the two ways out meet: the bytes have run out, or one hit has ended both loops
     let stopped : Stopped c.args.pool.now c.args.base c.args.n c.search-test.hit =
-        elim c.search-test.branch [
-          else-search-test w ↦
-            let e : c.search-test.hit ≡ c.args.n = w.hit-is ∙ c.search.invariant.0 in
-            rw e (search_done c.args.pool.now _ c.args.n c.search.j (omega (arith, w.search-test.false)) c.search.invariant.1)
-        | then-search-test+then-loop-i-test+then-not-bit_at w ↦
-            rw w.hit-is
-            (bit_clear c.args.pool.now _ c.search.j _ w.get_byte-b.ensures w.loop-i.i w.loop-i-test.true _ w.bit_at.ensures c.args.n w.loop-i.invariant.2 w.if-not-bit_at.true)
-        ] in
+    elim c.search-test.branch [
+      | else-search-test w ↦
+          let e : c.search-test.hit ≡ c.args.n = w.hit-is ∙ c.search.invariant.0 in
+          rw e (search_done c.args.pool.now _ c.args.n c.search.j (omega (arith, w.search-test.false)) c.search.invariant.1)
+      | then-search-test+then-loop-i-test+then-not-bit_at w ↦
+          rw w.hit-is
+          (bit_clear c.args.pool.now _ c.search.j _ w.get_byte-b.ensures w.loop-i.i w.loop-i-test.true _ w.bit_at.ensures c.args.n w.loop-i.invariant.2 w.if-not-bit_at.true)
+    ] in
     search_miss _ _ _ _ stopped c.if-hit-n.false
