@@ -1,0 +1,9 @@
+use mathlib.Core.Path.{◌∙◌, ap}
+use Rattle.answer_words.specs.Word.{word_of}
+use Rattle.danumrikal.proofs.dnk_alloc.Goals as goal
+
+pub returns-clause-answer : goal.returns-clause-answer
+returns-clause-answer c = c.allocated_word.ensures ∙ ap word_of c.alloc.ensures.answer
+
+pub returns-clause-slice : goal.returns-clause-slice
+returns-clause-slice c = c.alloc.ensures.slice

@@ -1,0 +1,9 @@
+use mathlib.Core.Path.{◌∙◌, ap}
+use Rattle.answer_words.specs.Word.{word_of}
+use Rattle.danumrikal.proofs.dnk_convert.Goals as goal
+
+pub returns-clause-answer : goal.returns-clause-answer
+returns-clause-answer c = c.formatted_word.ensures ∙ ap word_of c.convert.ensures.answer
+
+pub returns-clause-slice : goal.returns-clause-slice
+returns-clause-slice c = c.convert.ensures.slice

@@ -1,0 +1,11 @@
+use mathlib.Core.Path.{◌∙◌, ap}
+use Rattle.answer_words.specs.Word.{word_of}
+use Rattle.danumrikal.proofs.dnk_gauge_start.Goals as goal
+
+pub returns-clause-answer : goal.returns-clause-answer
+returns-clause-answer c = let s = c.start.ensures in
+    c.gauged_reply.ensures.answer ∙ ap word_of s.answer
+
+pub returns-clause-gauge : goal.returns-clause-gauge
+returns-clause-gauge c = let s = c.start.ensures in
+    rw c.blank.ensures at c.gauged_reply.ensures.gauge ∙ s.gauge
