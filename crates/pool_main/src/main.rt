@@ -1,7 +1,9 @@
 // Serves the script on standard input with a pool of 12 pages, and prints its printout.
 #![tactic(auto)]
 
-ghost use Rattle.std.specs.Prelude.{◌≡◌, ◌≤◌, IfOk, length};
+ghost use Rattle.std.specs.Prelude.{◌≡◌, length, IfSome, OnOk};
+ghost use Rattle.std.specs.Io.KnownBytes.{Appends};
+ghost use Rattle.script.specs.Script.{printout};
 
 use std::io::{self, Read, Write};
 
@@ -12,26 +14,18 @@ fn buffer() -> [u8; 65536]
     [0; 65536]
 }
 
-// Reads until buf is full or the input ends, and answers how many bytes it put at the start of buf.
-fn read_full<R: Read>(reader: &mut R, buf: &mut [u8]) -> io::Result<usize>
-    ensures { IfOk result (λ n. n ≤ length buf.new) }
+// Serves the script that is left to read, and writes its printout.
+fn serve<R: Read, W: Write>(reader: &mut R, writer: &mut W) -> io::Result<()>
+    ensures { OnOk result (IfSome (R.remaining reader.old) (λ input. Appends (W.contents writer.old) (W.contents writer.new) (printout input))) }
 {
-    let mut done = 0;
-    while done < buf.len() {
-        let n = reader.read(&mut buf[done..])?;
-        if n == 0 {
-            break;
-        }
-        done += n;
-    }
-    Ok(done)
+    // one byte more than a script may have tells one that is too long
+    let mut input = [0u8; 12289];
+    let length = streams::read_full(reader, &mut input)?;
+    let mut out = buffer();
+    let printed = script::serve(&input[..length], &mut out);
+    writer.write_all(&out[..printed])
 }
 
 fn main(rt: HostRuntime) -> io::Result<()> {
-    // one byte more than a script may have tells one that is too long
-    let mut input = [0u8; 12289];
-    let length = read_full(&mut rt.stdin(), &mut input)?;
-    let mut out = buffer();
-    let printed = script::serve(&input[..length], &mut out);
-    rt.stdout().write_all(&out[..printed])
+    serve(&mut rt.stdin(), &mut rt.stdout())
 }

@@ -1,7 +1,9 @@
 // Reports on the pool's image on standard input.
 #![tactic(auto)]
 
-ghost use Rattle.std.specs.Prelude.{◌≡◌, ◌≤◌, IfOk, length};
+ghost use Rattle.std.specs.Prelude.{◌≡◌, length, IfSome, OnOk};
+ghost use Rattle.std.specs.Io.KnownBytes.{Appends};
+ghost use Rattle.report.specs.Report.{printout};
 
 use std::io::{self, Read, Write};
 
@@ -12,26 +14,18 @@ fn buffer() -> [u8; 262144]
     [0; 262144]
 }
 
-// Reads until buf is full or the input ends, and answers how many bytes it put at the start of buf.
-fn read_full<R: Read>(reader: &mut R, buf: &mut [u8]) -> io::Result<usize>
-    ensures { IfOk result (λ n. n ≤ length buf.new) }
+// Reads the image that is left to read, and writes its printout.
+fn report<R: Read, W: Write>(reader: &mut R, writer: &mut W) -> io::Result<()>
+    ensures { OnOk result (IfSome (R.remaining reader.old) (λ image. Appends (W.contents writer.old) (W.contents writer.new) (printout image))) }
 {
-    let mut done = 0;
-    while done < buf.len() {
-        let n = reader.read(&mut buf[done..])?;
-        if n == 0 {
-            break;
-        }
-        done += n;
-    }
-    Ok(done)
+    // an image that fills the buffer is too long
+    let mut image = [0u8; 53608];
+    let length = streams::read_full(reader, &mut image)?;
+    let mut out = buffer();
+    let printed = report::report(&image[..length], &mut out);
+    writer.write_all(&out[..printed])
 }
 
 fn main(rt: HostRuntime) -> io::Result<()> {
-    // an image that fills the buffer is too long
-    let mut image = [0u8; 53608];
-    let length = read_full(&mut rt.stdin(), &mut image)?;
-    let mut out = buffer();
-    let printed = report::report(&image[..length], &mut out);
-    rt.stdout().write_all(&out[..printed])
+    report(&mut rt.stdin(), &mut rt.stdout())
 }
