@@ -3,10 +3,10 @@
 #![allow(dead_code)] // each test uses a part
 
 use std::ffi::OsStr;
-use std::fs;
 use std::os::unix::fs::symlink;
 use std::path::{Path, PathBuf};
-use std::process::{Command, Output};
+use std::process::{self, Command, Output};
+use std::{env, fs, thread};
 
 use danumrikal::{Edition, Offset, Pool};
 use support::{offset, Habit, Rng};
@@ -58,13 +58,14 @@ impl Ran {
     }
 }
 
-/// A folder for a test.
+/// A folder for a test. It lies outside the repository, where `rt` takes no
+/// links, and goes when the test has passed.
 pub struct Folder(pub PathBuf);
 
 impl Folder {
     /// An empty one with this name.
     pub fn new(name: &str) -> Folder {
-        let path = Path::new(env!("CARGO_TARGET_TMPDIR")).join(format!("command-{name}"));
+        let path = env::temp_dir().join(format!("command-{}-{name}", process::id()));
         let _ = fs::remove_dir_all(&path);
         fs::create_dir_all(&path).expect("a folder");
         Folder(path)
@@ -108,11 +109,10 @@ impl Folder {
 
     /// Runs a line of shell in this folder, where `danumrikal` is the program.
     pub fn shell(&self, line: &str) -> Ran {
-        // a folder with the program alone: beside it lie others
-        let folder = self.0.with_extension("bin");
+        let folder = self.bin();
         let _ = fs::create_dir(&folder);
         let _ = symlink(PROGRAM, folder.join("danumrikal"));
-        let path = std::env::var("PATH").unwrap_or_default();
+        let path = env::var("PATH").unwrap_or_default();
         let shell = Command::new("sh")
             .args(["-c", line])
             .env("PATH", format!("{}:{path}", folder.display()))
@@ -120,6 +120,20 @@ impl Folder {
             .current_dir(&self.0)
             .output();
         Ran::of(shell.expect("a shell"))
+    }
+
+    /// A folder with the program alone: beside it lie others.
+    fn bin(&self) -> PathBuf {
+        self.0.with_extension("bin")
+    }
+}
+
+impl Drop for Folder {
+    fn drop(&mut self) {
+        if !thread::panicking() {
+            let _ = fs::remove_dir_all(&self.0);
+            let _ = fs::remove_dir_all(self.bin());
+        }
     }
 }
 
