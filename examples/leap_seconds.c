@@ -4,8 +4,8 @@
  * has the old table's offset gives its block back a second time. In the
  * repository's root:
  *
- *     rt staticlib danumrikal
- *     cc -std=c99 -I include examples/leap_seconds.c target/staticlib/libdanumrikal.a -o leap_seconds
+ *     (cd crates/danumrikal && rt lib)
+ *     cc -std=c99 -I include examples/leap_seconds.c crates/danumrikal/out/libdanumrikal.a -o leap_seconds
  *     ./leap_seconds
  */
 #include "danumrikal.h"

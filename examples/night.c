@@ -2,8 +2,8 @@
  * A night at the dome: a star list, a pointing block and a leap second table
  * share one pool. In the repository's root:
  *
- *     rt staticlib danumrikal
- *     cc -std=c99 -I include examples/night.c target/staticlib/libdanumrikal.a -o night
+ *     (cd crates/danumrikal && rt lib)
+ *     cc -std=c99 -I include examples/night.c crates/danumrikal/out/libdanumrikal.a -o night
  *     ./night
  */
 #include "danumrikal.h"

@@ -2,8 +2,8 @@
  * The dome's panel: the pages in use of the camera's pool, smoothed, and a trip
  * level. In the repository's root:
  *
- *     rt staticlib danumrikal
- *     cc -std=c99 -I include examples/panel.c target/staticlib/libdanumrikal.a -o panel
+ *     (cd crates/danumrikal && rt lib)
+ *     cc -std=c99 -I include examples/panel.c crates/danumrikal/out/libdanumrikal.a -o panel
  *     ./panel
  */
 #include "danumrikal.h"

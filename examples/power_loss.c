@@ -2,8 +2,8 @@
  * After a power loss: the pool of the night before is judged, mended into a
  * second slice, checked, and goes on. In the repository's root:
  *
- *     rt staticlib danumrikal
- *     cc -std=c99 -I include examples/power_loss.c target/staticlib/libdanumrikal.a -o power_loss
+ *     (cd crates/danumrikal && rt lib)
+ *     cc -std=c99 -I include examples/power_loss.c crates/danumrikal/out/libdanumrikal.a -o power_loss
  *     ./power_loss
  */
 #include "danumrikal.h"

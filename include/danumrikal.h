@@ -1,8 +1,8 @@
 /*
  * Danumrikal: a slab allocator in a shared slice of bytes, for C99 and C++.
  *
- * A pool is a pointer and a length. `rt staticlib danumrikal` makes the archive
- * with the calls, target/staticlib/libdanumrikal.a; it needs no other library.
+ * A pool is a pointer and a length. `rt lib`, in crates/danumrikal, makes the
+ * archive with the calls, out/libdanumrikal.a there; it needs no other library.
  * Three of them act on a gauge, which smooths a pool's number of pages in use,
  * three on a pool and a directory of records by key, all others on a pool.
  *
