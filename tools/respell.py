@@ -5,7 +5,9 @@ types and facts in upper camel case as they were, a dash only between two names 
 usage: python3 tools/respell.py [--dry]     at the top of the repository
 
 It goes by text. A name is turned where the repository's specs/ or proofs/ define it, in the file that defines it and in
-those that import it; names that would fall together get the ending '_lem', and are listed.
+those that import it; names that would fall together get the ending '_lem', and are listed. With --dry it lists the names and
+writes nothing. A file ZzEdit*.antt or zzedit*.rt is a file of its crate with a must-fail edit applied: it is turned by the
+names of the others, so that what differs from its neighbour is the edit in the new spelling.
 """
 import glob
 import re
@@ -171,9 +173,8 @@ def main(dry):
             if not dry:
                 open(f, "w", encoding="utf-8").write(new)
     print(f"respelled: {len(turn)} names in {changed} files")
-    with open("/tmp/respelled.txt", "w") as out:
-        for n in sorted(turn):
-            out.write(f"{n} {turn[n]}\n")
+    if dry:
+        print("\n".join(f"{n} {turn[n]}" for n in sorted(turn)))
 
 
 if __name__ == "__main__":
