@@ -13,7 +13,7 @@ ghost use Rattle.chunks.specs.Mirror.{page_cut};
 ghost use Rattle.class_peaks.specs.Mirror.{peak_raised};
 ghost use Rattle.alloc_sound.specs.Mirror.{chunk_outcome, chunk_slice, first_outcome, cut_outcome, cut_slice, new_outcome, new_slice, from_outcome, from_slice, class_outcome, class_slice, run_outcome, run_slice, pages_outcome, pages_slice, takes_chunk, runs_outcome, runs_slice, take_slice, peak_for, alloc_outcome, alloc_slice, outcome_of};
 
-use answers::{Allocated, Offset, Refusal};
+use answers::{Offset, Refusal};
 use records::{LARGEST_CHUNK, NO_PAGE, PAGE, PageNumber};
 
 // Blocks are passed up as their offset in a plain number, for which no field is packed and unpacked on the way; two numbers past every
@@ -23,7 +23,7 @@ const NOTHING_ASKED: u32 = 4294967294;
 const NO_ROOM: u32 = 4294967295;
 
 // Takes a block of at least `size` bytes (SPEC 4.4).
-pub fn alloc_sound(pool: &mut [u8], w: u8, pages: u16, size: u32) -> Allocated
+pub fn alloc_sound(pool: &mut [u8], w: u8, pages: u16, size: u32) -> Result<Offset, Refusal>
     requires { Whole w pool.old pages }
     ensures answer { of_alloc result ≡ alloc_outcome w pool.old pages size }
     ensures slice { pool.new ≡ alloc_slice w pool.old pages size }
@@ -32,16 +32,16 @@ pub fn alloc_sound(pool: &mut [u8], w: u8, pages: u16, size: u32) -> Allocated
     allocated(x)
 }
 
-fn allocated(x: u32) -> Allocated
+fn allocated(x: u32) -> Result<Offset, Refusal>
     ensures { of_alloc result ≡ outcome_of x }
 {
     if x < NOTHING_ASKED {
-        return Allocated::At(Offset(x));
+        return Ok(Offset(x));
     }
     if x == NOTHING_ASKED {
-        Allocated::Refused(Refusal::NothingAsked)
+        Err(Refusal::NothingAsked)
     } else {
-        Allocated::Refused(Refusal::NoRoom)
+        Err(Refusal::NoRoom)
     }
 }
 

@@ -1,13 +1,6 @@
 -- What a call's answer says (SPEC 4.1): the refusal's number, 0 where the call is granted, and the value.
-use Rattle.std.specs.Prelude.{ℕ}
-use Rattle.answers.specs.declared.Formatted.{Formatted}
-use Rattle.answers.specs.declared.Formatted.TheVariants as formatted
-use Rattle.answers.specs.declared.Allocated.{Allocated}
-use Rattle.answers.specs.declared.Allocated.TheVariants as allocated
-use Rattle.answers.specs.declared.Freed.{Freed}
-use Rattle.answers.specs.declared.Freed.TheVariants as freed
-use Rattle.answers.specs.declared.Batched.{Batched}
-use Rattle.answers.specs.declared.Batched.TheVariants as batched
+use Rattle.std.specs.Prelude.{ℕ, Result, Ok, Err}
+use Rattle.answers.specs.declared.Offset.{Offset}
 use Rattle.answers.specs.declared.Refusal.{Refusal}
 use Rattle.answers.specs.declared.Refusal.TheVariants.{TooShort, TooLong, NotSound, NoRoom, Outside, NotTaken, NotAStart, Unreadable, ScriptTooLong, NothingAsked, AnswersTooShort, WrongLength, BeyondMending, OtherBlocks, OutOfRange, TableTooShort, NoPlace, NotHeld}
 
@@ -41,18 +34,18 @@ granted v = record { number = 0; value = v }
 abbrev pub refused : Refusal → Outcome
 refused r = record { number = number_of r; value = 0 }
 
-abbrev pub of_format : Formatted → Outcome
-of_format (formatted.Pages n) = granted n
-of_format (formatted.Refused r) = refused r
+abbrev pub of_format : Result ℕ Refusal → Outcome
+of_format (Ok n) = granted n
+of_format (Err r) = refused r
 
-abbrev pub of_alloc : Allocated → Outcome
-of_alloc (allocated.At off) = granted off.0
-of_alloc (allocated.Refused r) = refused r
+abbrev pub of_alloc : Result Offset Refusal → Outcome
+of_alloc (Ok off) = granted off.0
+of_alloc (Err r) = refused r
 
-abbrev pub of_free : Freed → Outcome
-of_free (freed.Bytes n) = granted n
-of_free (freed.Refused r) = refused r
+abbrev pub of_free : Result ℕ Refusal → Outcome
+of_free (Ok n) = granted n
+of_free (Err r) = refused r
 
-abbrev pub of_batch : Batched → Outcome
-of_batch batched.Done = granted 0
-of_batch (batched.Refused r) = refused r
+abbrev pub of_batch : Result (Unit {0}) Refusal → Outcome
+of_batch (Ok _) = granted 0
+of_batch (Err r) = refused r

@@ -1,4 +1,4 @@
-// What the public calls answer: an enum for each, over offsets and refusals.
+// What the public calls answer: offsets, and why a call is refused. A call that may be refused returns a `Result`.
 #![tactic(auto)]
 
 ghost use Rattle.std.specs.Prelude.{◌≡◌};
@@ -7,34 +7,6 @@ ghost use Rattle.answers.specs.Outcome.{number_of};
 // A byte by its distance from the first page's first byte.
 #[derive(Clone, Copy)]
 pub struct Offset(pub u32);
-
-// Of format, convert and mend.
-#[derive(Clone, Copy)]
-pub enum Formatted {
-    // the page count
-    Pages(u16),
-    Refused(Refusal),
-}
-
-#[derive(Clone, Copy)]
-pub enum Allocated {
-    At(Offset),
-    Refused(Refusal),
-}
-
-#[derive(Clone, Copy)]
-pub enum Freed {
-    // the bytes released
-    Bytes(u32),
-    Refused(Refusal),
-}
-
-// Of batch and check_mended.
-#[derive(Clone, Copy)]
-pub enum Batched {
-    Done,
-    Refused(Refusal),
-}
 
 #[derive(Clone, Copy)]
 pub enum Refusal {
@@ -77,27 +49,29 @@ pub enum Refusal {
 }
 
 // The refusal's number (SPEC 5).
-pub fn number(r: Refusal) -> u8
-    ensures { result ≡ number_of r }
-{
-    match r {
-        Refusal::TooShort => 1,
-        Refusal::TooLong => 2,
-        Refusal::NotSound => 3,
-        Refusal::NoRoom => 4,
-        Refusal::Outside => 5,
-        Refusal::NotTaken => 6,
-        Refusal::NotAStart => 7,
-        Refusal::Unreadable => 8,
-        Refusal::ScriptTooLong => 9,
-        Refusal::NothingAsked => 10,
-        Refusal::AnswersTooShort => 11,
-        Refusal::WrongLength => 12,
-        Refusal::BeyondMending => 13,
-        Refusal::OtherBlocks => 14,
-        Refusal::OutOfRange => 15,
-        Refusal::TableTooShort => 16,
-        Refusal::NoPlace => 17,
-        Refusal::NotHeld => 18,
+impl From<Refusal> for u8 {
+    ghost from_gives = { λ r n. n ≡ number_of r };
+
+    fn from(r: Refusal) -> u8 {
+        match r {
+            Refusal::TooShort => 1,
+            Refusal::TooLong => 2,
+            Refusal::NotSound => 3,
+            Refusal::NoRoom => 4,
+            Refusal::Outside => 5,
+            Refusal::NotTaken => 6,
+            Refusal::NotAStart => 7,
+            Refusal::Unreadable => 8,
+            Refusal::ScriptTooLong => 9,
+            Refusal::NothingAsked => 10,
+            Refusal::AnswersTooShort => 11,
+            Refusal::WrongLength => 12,
+            Refusal::BeyondMending => 13,
+            Refusal::OtherBlocks => 14,
+            Refusal::OutOfRange => 15,
+            Refusal::TableTooShort => 16,
+            Refusal::NoPlace => 17,
+            Refusal::NotHeld => 18,
+        }
     }
 }

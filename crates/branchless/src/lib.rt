@@ -18,28 +18,15 @@ pub fn implies(a: bool, b: bool) -> bool
     if a { b } else { true }
 }
 
-pub fn all3(a: bool, b: bool, c: bool) -> bool
-    ensures { result ≡ all_of (a ∷ b ∷ c ∷ []) }
+// All of them are looked at.
+pub fn all<const N: usize>(tests: [bool; N]) -> bool
+    ensures { result ≡ all_of tests.entry }
 {
-    both(a, both(b, both(c, true)))
-}
-
-pub fn all4(a: bool, b: bool, c: bool, d: bool) -> bool
-    ensures { result ≡ all_of (a ∷ b ∷ c ∷ d ∷ []) }
-{
-    both(a, all3(b, c, d))
-}
-
-pub fn all5(a: bool, b: bool, c: bool, d: bool, e: bool) -> bool
-    ensures { result ≡ all_of (a ∷ b ∷ c ∷ d ∷ e ∷ []) }
-{
-    both(a, all4(b, c, d, e))
-}
-
-pub fn all6(a: bool, b: bool, c: bool, d: bool, e: bool, f: bool) -> bool
-    ensures { result ≡ all_of (a ∷ b ∷ c ∷ d ∷ e ∷ f ∷ []) }
-{
-    both(a, all5(b, c, d, e, f))
+    let mut holds = true;
+    for t in &tests {
+        holds = both(*t, holds);
+    }
+    holds
 }
 
 // One for a test that holds.
@@ -48,11 +35,4 @@ pub fn one_if(a: bool) -> u64
     ensures bound { result ≤ 1 }
 {
     if a { 1 } else { 0 }
-}
-
-// The difference, or 0.
-pub fn minus(a: usize, b: usize) -> usize
-    ensures { result ≡ a - b }
-{
-    if a < b { 0 } else { a - b }
 }

@@ -10,7 +10,7 @@ ghost use Rattle.validate_totals.specs.Mirror.{Scanned};
 ghost use Rattle.mending.specs.Mending.{shaped};
 ghost use Rattle.mending.specs.Checked.{same_record, same_page_at, same_byte_from, compared, check_outcome};
 
-use answers::{Batched, Refusal};
+use answers::Refusal;
 use records::{Links, PageNumber};
 
 // ---- what of the damaged pool must be good
@@ -41,12 +41,12 @@ fn choose(t: bool, a: bool, b: bool) -> bool
 fn same_record(l: Links, k: Links, map: u64, other: u64) -> bool
     ensures { result ≡ same_record l k map other }
 {
-    let same = branchless::all4(
+    let same = branchless::all([
         l.kind == k.kind,
         l.class == k.class,
         l.run == k.run,
         map == other,
-    );
+    ]);
     choose(l.kind <= 1, k.kind <= 1, same)
 }
 
@@ -65,13 +65,11 @@ fn same_pages(s: &[u8], t: &[u8], w: u8, n: usize) -> bool
     requires { n ≤ no_page }
     ensures { result ≡ all_below (same_page_at (fields_of w s.now) (fields_of w t.now)) n }
 {
-    let mut p = 0;
-    while p < n {
+    for p in 0..n {
         let at = p as u16;
         if !same_page(s, t, w, PageNumber(at)) {
             return false;
         }
-        p += 1;
     }
     true
 }
@@ -90,26 +88,24 @@ fn same_from(s: &[u8], t: &[u8], from: usize) -> bool
 {
     let count = s.len() - from;
     let mut same = true;
-    let mut i = 0;
-    while i < count {
+    for i in 0..count {
         same = branchless::both(same_byte(s, t, from, i), same);
-        i += 1;
     }
     same
 }
 
 // A sound copy: the maps of small classes lie in the pages, so that these come first.
-fn compare(damaged: &[u8], mended: &[u8], w: u8, n: usize) -> Batched
+fn compare(damaged: &[u8], mended: &[u8], w: u8, n: usize) -> Result<(), Refusal>
     requires { (n ≡ pages_in w damaged.now) × (n ≤ 4096) × (pages_from w n ≤ length damaged.now) × (length damaged.now ≡ length mended.now) }
     ensures { of_batch result ≡ compared w damaged.now mended.now }
 {
     if !same_from(damaged, mended, 8 * (1 + 9 * w as usize + 2 * n)) {
-        return Batched::Refused(Refusal::OtherBlocks);
+        return Err(Refusal::OtherBlocks);
     }
     if !same_pages(damaged, mended, w, n) {
-        return Batched::Refused(Refusal::OtherBlocks);
+        return Err(Refusal::OtherBlocks);
     }
-    Batched::Done
+    Ok(())
 }
 
 fn same_edition(s: &[u8], t: &[u8]) -> bool
@@ -119,22 +115,22 @@ fn same_edition(s: &[u8], t: &[u8]) -> bool
 }
 
 // Accepts the copy, or tells the refusal.
-pub fn check_mended(damaged: &[u8], mended: &[u8], w: u8) -> Batched
+pub fn check_mended(damaged: &[u8], mended: &[u8], w: u8) -> Result<(), Refusal>
     ensures { of_batch result ≡ check_outcome w damaged.now mended.now }
 {
     if damaged.len() != mended.len() {
-        return Batched::Refused(Refusal::WrongLength);
+        return Err(Refusal::WrongLength);
     }
     if !same_edition(damaged, mended) {
-        return Batched::Refused(Refusal::WrongLength);
+        return Err(Refusal::WrongLength);
     }
     let n = validate_length::page_count(w, damaged.len());
     let mut t = [0u64; 11];
     if !shaped(damaged, w, n, &mut t) {
-        return Batched::Refused(Refusal::BeyondMending);
+        return Err(Refusal::BeyondMending);
     }
     if !validate::validate(mended, w) {
-        return Batched::Refused(Refusal::NotSound);
+        return Err(Refusal::NotSound);
     }
     compare(damaged, mended, w, n)
 }

@@ -81,7 +81,7 @@ fn take_last(pool: &mut [u8], w: u8, c: u8, p: PageNumber, k: usize, i: u16)
 {
     let next = class_lists::set_aside(pool, w, c, p);
     class_counting::count_used_first(pool, w, c, next);
-    map_marks::set_mark_in(pool, k, i);
+    map_marks::put_mark_in(pool, k, i, true);
 }
 
 fn take(pool: &mut [u8], w: u8, c: u8, k: usize, i: u16)
@@ -89,7 +89,7 @@ fn take(pool: &mut [u8], w: u8, c: u8, k: usize, i: u16)
     ensures { pool.new ≡ with_mark (count_used w pool.old c) (8 * k) (i % 64) true }
 {
     class_counting::count_used(pool, w, c);
-    map_marks::set_mark_in(pool, k, i);
+    map_marks::put_mark_in(pool, k, i, true);
 }
 
 // Writes the whole map of page p, which is new: the map's own chunks and the first after them are taken.

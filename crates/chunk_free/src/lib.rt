@@ -31,7 +31,7 @@ fn keep(pool: &mut [u8], w: u8, c: u8, p: PageNumber, k: usize, i: u16)
     ensures { pool.new ≡ with_mark (back_counted w pool.old c p.0) (8 * k) (i % 64) false }
 {
     class_lists::count_returned(pool, w, c, p);
-    map_marks::clear_mark_in(pool, k, i);
+    map_marks::put_mark_in(pool, k, i, false);
 }
 
 // The last chunk i of page p comes back: the page leaves the list and is released. Word k has the mark.
@@ -41,6 +41,6 @@ fn drop_page(pool: &mut [u8], w: u8, pages: u16, c: u8, p: PageNumber, k: usize,
 {
     class_lists::delist(pool, w, c, p);
     run_free::release(pool, w, pages, p, 1);
-    map_marks::clear_mark_in(pool, k, i);
+    map_marks::put_mark_in(pool, k, i, false);
     class_counting::count_page_back(pool, w, c);
 }

@@ -14,16 +14,10 @@ ghost use Rattle.classes.specs.Mirror.{chunk_asked, chunk_back, chunk_borrowed, 
 
 use records::{ClassRecord, MOST_ASKS, PageNumber};
 
-fn minus(n: u32, less: u16) -> u32
-    ensures { result ≡ n - less }
-{
-    if n < less as u32 { 0 } else { n - less as u32 }
-}
-
 fn chunk_back(r: ClassRecord) -> ClassRecord
     ensures { result ≡ chunk_back r }
 {
-    records::used_to(r, minus(r.used, 1))
+    records::used_to(r, r.used.saturating_sub(1))
 }
 
 // ---- one chunk more or less, in the words that change: `used` is the middle 24 bits of the counts, `total` the lowest 24, `reqs` and `fails`
@@ -38,14 +32,14 @@ const ONE_ASK: u64 = 4294967296;
 fn used_less(v: u64) -> u64
     ensures { result ≡ pack_counts (chunk_borrowed (unpack_class v 0)) }
 {
-    std::num::wrapping_add_u64(v, MINUS_ONE_USED)
+    v.wrapping_add(MINUS_ONE_USED)
 }
 
 // Asks that have stopped carry out of the word.
 fn asks_more(v: u64) -> u64
     ensures { result ≡ pack_tally (chunk_asked (unpack_class 0 v)) }
 {
-    let x = std::num::wrapping_add_u64(v, ONE_ASK);
+    let x = v.wrapping_add(ONE_ASK);
     if x < v { v } else { x }
 }
 
@@ -106,24 +100,18 @@ fn used_in(counts: u64) -> u32
     (counts / 16777216 % 16777216) as u32
 }
 
-fn larger(peak: u32, used: u32) -> u32
-    ensures { result ≡ pick (nat_lt peak used) used peak }
-{
-    if peak < used { used } else { peak }
-}
-
 // The counts rise by `more`, asks and failures by one where they are to, and the peak follows used.
 fn tally_raised(t: Tally, more: u64, asks: bool, fails: bool) -> Tally
     ensures { result ≡ raised_by more asks fails t }
 {
-    let counts = std::num::wrapping_add_u64(t.counts, more);
+    let counts = t.counts.wrapping_add(more);
     let tallies = failed(asked(t.asks, asks), fails);
     let used = used_in(counts);
-    let peak = larger(t.peak, used);
+    let peak = t.peak.max(used);
     Tally {
-        counts: counts,
+        counts,
         asks: tallies,
-        peak: peak,
+        peak,
     }
 }
 
@@ -151,8 +139,8 @@ fn put_used(pool: &mut [u8], k: usize, l: usize, counts: u64, asks: u64)
     ensures { pool.new ≡ set_word (set_word pool.old k (pack_counts (chunk_carried (unpack_class counts 0)))) l (pack_tally (chunk_asked (unpack_class 0 asks))) }
 {
     let t = Tally {
-        counts: counts,
-        asks: asks,
+        counts,
+        asks,
         peak: 0,
     };
     let r = raised_by_loan(t, ONE_USED, true, false);
@@ -200,8 +188,8 @@ pub fn count_page_used(pool: &mut [u8], w: u8, c: u8)
     let counts = cells::get_word(pool, k);
     let asks = cells::get_word(pool, l);
     let t = Tally {
-        counts: counts,
-        asks: asks,
+        counts,
+        asks,
         peak: 0,
     };
     let r = raised_by_loan(t, page_used(c), true, false);
@@ -217,7 +205,7 @@ pub fn refuse_chunk(pool: &mut [u8], w: u8, c: u8)
     let asks = cells::get_word(pool, l);
     let t = Tally {
         counts: 0,
-        asks: asks,
+        asks,
         peak: 0,
     };
     let r = raised_by_loan(t, 0, true, true);
@@ -236,13 +224,13 @@ pub fn count_back_first(pool: &mut [u8], w: u8, c: u8, p: PageNumber)
     requires { counts_place w c < length pool.old / 8 }
     ensures { pool.new ≡ count_back_first w pool.old c p.0 }
 {
-    count_first_back(pool, records::place(1, w, c as u16), PageNumber(p.0));
+    count_first_back(pool, records::place(1, w, c as u16), p);
 }
 
 pub fn count_page_back(pool: &mut [u8], w: u8, c: u8)
     ensures { pool.new ≡ count_page_back w pool.old c }
 {
     let r = record_class::get_class(pool, w, c);
-    let total = minus(r.total, classes::total_count(c));
+    let total = r.total.saturating_sub(classes::total_count(c) as u32);
     record_class::put_class(pool, w, c, records::total_to(chunk_back(r), total));
 }

@@ -34,8 +34,8 @@ pub fn set_aside(pool: &mut [u8], w: u8, c: u8, p: PageNumber) -> PageNumber
 {
     let l = record_page::get_links(pool, w, p);
     record_page::put_links(pool, w, p, chunks::class_links(c));
-    list_links::put_prev(pool, w, PageNumber(l.next.0), PageNumber(NO_PAGE));
-    PageNumber(l.next.0)
+    list_links::put_prev(pool, w, l.next, PageNumber(NO_PAGE));
+    l.next
 }
 
 // A chunk of page p comes back, and others of it stay taken. A page that was full is on no list and returns to its head: two links tell,
@@ -76,7 +76,7 @@ fn put_back(pool: &mut [u8], w: u8, c: u8, p: PageNumber, h: PageNumber)
 fn put_before(pool: &mut [u8], w: u8, c: u8, p: PageNumber, h: PageNumber)
     ensures { pool.new ≡ set_before w pool.old c p.0 h.0 }
 {
-    let l = list_links::between_pages(chunks::class_links(c), PageNumber(NO_PAGE), PageNumber(h.0));
+    let l = list_links::between_pages(chunks::class_links(c), PageNumber(NO_PAGE), h);
     record_page::put_links(pool, w, p, l);
     list_links::put_prev(pool, w, h, p);
 }

@@ -21,9 +21,9 @@ fn lift_peak(pool: &mut [u8], w: u8, c: u8)
     let peak = record_class::get_peak(pool, w, c);
     let counts = cells::get_word(pool, records::place(1, w, c as u16));
     let t = Tally {
-        counts: counts,
+        counts,
         asks: 0,
-        peak: peak,
+        peak,
     };
     let r = class_counting::raised_by_loan(t, 0, false, false);
     lift_to(pool, w, c, peak, r.peak);

@@ -19,6 +19,7 @@ use Rattle.copying.specs.Lay.{lay}
 use Rattle.image.specs.Image.{write_at}
 use Rattle.rules.specs.Bytes.{pages_in, broken_rule}
 use Rattle.drawing.proofs.Laws.{claims as laws-of}
+use Rattle.sound_pools.specs.Sound.{Validated}
 use Rattle.convert.specs.Convert.{convert_outcome, converted}
 use Rattle.convert.specs.Mirror.{words_copied, peaks_set, pages_laid, written}
 use Rattle.convert.proofs.Written.{written_is}
@@ -73,32 +74,27 @@ laid_at P s t v e =
 
 -- ---- what the tests let pass
 
-module _ (s t : List ℕ) (B : Bytes s) (C : Bytes t) (u : Bool) (e : u ≡ eqb (broken_rule 2 s) 0) where
-  pub not_sound_lem : u ≡ false → (refused NotSound ≡ convert_outcome s t) × (t ≡ converted s t)
-  not_sound_lem n = let (a, b) = unsound s t (eqb-false _ _ (sym e ∙ n)) in (sym a, sym b)
+module _ (s t : List ℕ) (B : Bytes s) (C : Bytes t) where
+  pub not_sound_lem : broken_rule 2 s ≢ 0 → (refused NotSound ≡ convert_outcome s t) × (t ≡ converted s t)
+  not_sound_lem n = let (a, b) = unsound s t n in (sym a, sym b)
 
-  module _ (n : u ≡ true) (pages : ℕ) (p : pages ≡ page_count 2 (length s) % 65536) where
+  module _ {pages : ℕ} (G : Validated 2 s pages) where
     sound : broken_rule 2 s ≡ 0
-    sound = eqb-true _ _ (sym e ∙ n)
-
-    pages_are : pages ≡ pages_in 2 s
-    pages_are =
-        let F = (laws-of 2 (omega arith) (omega arith) s B).sound-fits sound in
-        p ∙ omega (arith, F.few, F.size)
+    sound = G.pool.sound
 
     module _ (k : ℕ) (q : k ≡ page_count 3 (length t)) where
       pub other_pages : k ≢ pages → (refused WrongLength ≡ convert_outcome s t) × (t ≡ converted s t)
-      other_pages d = let (a, b) = wrong_length s t sound (λ z. d (q ∙ z ∙ sym pages_are)) in (sym a, sym b)
+      other_pages d = let (a, b) = wrong_length s t sound (λ z. d (q ∙ z ∙ sym G.counted)) in (sym a, sym b)
 
       module _ (z : k ≡ pages) where
         same : pages_in 3 t ≡ pages_in 2 s
-        same = sym q ∙ z ∙ pages_are
+        same = sym q ∙ z ∙ G.counted
 
         pub has_room : (pages_from 3 pages + 4096 * pages ≤ length t) × (pages_from 2 pages + 4096 * pages ≤ length s)
-        has_room = rw pages_are (target_room s t B C sound same, source_room s t B C sound same)
+        has_room = rw G.counted (target_room s t B C sound same, source_room s t B C sound same)
 
         pub all-written : (v : List ℕ) → v ≡ written pages s t → (granted pages ≡ convert_outcome s t) × (v ≡ converted s t)
         all-written v w = (
-          rw pages_are (sym (granted-is s t B C sound same)),
-          w ∙ ap (λ (n : ℕ). written n s t) pages_are ∙ written_is s B sound t ∙ sym (converted-is s t B C sound same),
+          rw G.counted (sym (granted-is s t B C sound same)),
+          w ∙ ap (λ (n : ℕ). written n s t) G.counted ∙ written_is s B sound t ∙ sym (converted-is s t B C sound same),
         )

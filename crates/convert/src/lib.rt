@@ -8,18 +8,16 @@ ghost use Rattle.image.specs.Image.{header_of};
 ghost use Rattle.convert.specs.Convert.{convert_outcome, converted};
 ghost use Rattle.convert.specs.Mirror.{words_copied, peaks_set, pages_laid, header_set, classes_copied, pages_copied, written};
 
-use answers::{Formatted, Refusal};
+use answers::Refusal;
 use records::{Header, PageNumber};
 
 // Copies n words of the source, `stride` apart from `from` on, to words of the target, `step` apart from `to` on.
 fn copy_words(target: &mut [u8], to: u16, step: u8, source: &[u8], from: u16, stride: u8, n: u16)
     ensures { target.new ≡ words_copied to step from stride n source.now target.old }
 {
-    let mut i = 0;
-    while i < n {
+    for i in 0..n {
         let v = cells::get_word(source, records::place(from, stride, i));
         cells::put_word(target, records::place(to, step, i), v);
-        i += 1;
     }
 }
 
@@ -27,11 +25,9 @@ fn copy_words(target: &mut [u8], to: u16, step: u8, source: &[u8], from: u16, st
 fn set_peaks(target: &mut [u8], source: &[u8])
     ensures { target.new ≡ peaks_set source.now target.old }
 {
-    let mut c: u8 = 0;
-    while c < 9 {
+    for c in 0..9 {
         let used = record_class::get_used(source, 2, c);
         record_class::put_peak(target, 3, c, used);
-        c += 1;
     }
 }
 
@@ -42,9 +38,9 @@ fn second_header(pages: u16, h: Header) -> Header
         edition: 2,
         min_shift: 3,
         page_shift: 12,
-        pages: pages,
+        pages,
         free_pages: h.free_pages,
-        first_run: PageNumber(h.first_run.0),
+        first_run: h.first_run,
     }
 }
 
@@ -89,17 +85,14 @@ fn write(target: &mut [u8], source: &[u8], pages: u16)
 }
 
 // Copies a pool of edition 1 into the target as edition 2: the page count, or the refusal. The target's tail stays.
-pub fn convert(source: &[u8], target: &mut [u8]) -> Formatted
+pub fn convert(source: &[u8], target: &mut [u8]) -> Result<u16, Refusal>
     ensures answer { of_format result ≡ convert_outcome source.now target.old }
     ensures slice { target.new ≡ converted source.now target.old }
 {
-    if !validate::validate(source, 2) {
-        return Formatted::Refused(Refusal::NotSound);
-    }
-    let pages = calls::pages_in(2, source.len());
+    let pages = calls::sound_pages(source, 2)?;
     if validate_length::page_count(3, target.len()) != pages as usize {
-        return Formatted::Refused(Refusal::WrongLength);
+        return Err(Refusal::WrongLength);
     }
     write(target, source, pages);
-    Formatted::Pages(pages)
+    Ok(pages)
 }

@@ -9,9 +9,5 @@ pub fn copy(target: &mut [u8], to: usize, source: &[u8], from: usize, n: usize)
     requires { (to + n ≤ length target.old) × (from + n ≤ length source.now) }
     ensures { target.new ≡ lay to from source.now n target.old }
 {
-    let mut i = 0;
-    while i < n {
-        target[to + i] = source[from + i];
-        i += 1;
-    }
+    target[to..to + n].copy_from_slice(&source[from..from + n]);
 }

@@ -18,7 +18,7 @@ ghost use Rattle.free_all_bytes.specs.FreeAll.{free_all_outcome, free_all_after}
 ghost use Rattle.free_all.specs.Outcome.{of_free_all};
 
 use answers::Offset;
-use free_all::{Failed, FreedAll};
+use free_all::Failed;
 use gauge::Gauge;
 use gauge_words::GaugeReply;
 
@@ -76,21 +76,19 @@ pub extern "C" fn dnk_free_all(pool: &mut [u8], offsets: &[u32]) -> u64
     freed_all_word(pool::free_all(pool, offsets))
 }
 
-fn freed_all_word(f: FreedAll) -> u64
+fn freed_all_word(f: Result<u32, Failed>) -> u64
     ensures { result ≡ word_of (of_free_all f) }
 {
     match f {
-        FreedAll::Blocks(n) => n as u64,
-        FreedAll::Refused(x) => failed_word(x),
+        Ok(n) => n as u64,
+        Err(x) => failed_word(x),
     }
 }
 
 fn failed_word(x: Failed) -> u64
     ensures { result ≡ word_of (record { number = number_of x.refusal; value = x.place }) }
 {
-    let refusal = x.refusal;
-    let place = x.place;
-    answer_words::refusal_word(refusal) + place as u64
+    answer_words::refusal_word(x.refusal) + x.place as u64
 }
 
 // Copies a pool of edition 1 into a second slice as edition 2: the page count, or the refusal.

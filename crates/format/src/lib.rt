@@ -7,7 +7,7 @@ ghost use Rattle.image.specs.Image.{header_of};
 ghost use Rattle.format.specs.Format.{format_outcome, inside_free, first_free, formatted};
 ghost use Rattle.format.specs.Mirror.{filled, peaks_cleared, classes_cleared, pages_cleared, run_linked, written};
 
-use answers::{Formatted, Refusal};
+use answers::Refusal;
 use records::{
     CLASS_WORD, FIRST_FREE, HEADER, Header, INSIDE_FREE, Links, NO_PAGE, PAGE_AND_RECORD,
     PageNumber, TOO_LONG,
@@ -22,7 +22,7 @@ fn fresh_header(w: u8, pages: u16) -> Header
         edition: w - 1,
         min_shift: 3,
         page_shift: 12,
-        pages: pages,
+        pages,
         free_pages: pages,
         first_run: PageNumber(0),
     }
@@ -36,7 +36,7 @@ fn inside_free(prev: PageNumber) -> Links
         class: 0,
         run: 0,
         next: PageNumber(NO_PAGE),
-        prev: PageNumber(prev.0),
+        prev,
     }
 }
 
@@ -56,10 +56,8 @@ fn first_free(pages: u16) -> Links
 fn fill(pool: &mut [u8], from: u16, step: u8, n: u16, v: u64)
     ensures { pool.new ≡ filled pool.old from step n v }
 {
-    let mut i = 0;
-    while i < n {
+    for i in 0..n {
         cells::put_word(pool, records::place(from, step, i), v);
-        i += 1;
     }
 }
 
@@ -126,7 +124,7 @@ fn write_records(pool: &mut [u8], w: u8, pages: u16)
 }
 
 // Makes a pool of as many pages as the slice has room for. Page bytes and tail stay.
-pub fn format(pool: &mut [u8], w: u8) -> Formatted
+pub fn format(pool: &mut [u8], w: u8) -> Result<u16, Refusal>
     requires { 2 ≤ w }
     ensures answer { of_format result ≡ format_outcome w (length pool.old) }
     ensures slice { pool.new ≡ formatted w pool.old }
@@ -134,12 +132,12 @@ pub fn format(pool: &mut [u8], w: u8) -> Formatted
     let len = pool.len();
     let head = HEADER + CLASS_WORD * w as usize;
     if len < head + PAGE_AND_RECORD {
-        return Formatted::Refused(Refusal::TooShort);
+        return Err(Refusal::TooShort);
     }
     if head + TOO_LONG <= len {
-        return Formatted::Refused(Refusal::TooLong);
+        return Err(Refusal::TooLong);
     }
     let pages = ((len - head) / PAGE_AND_RECORD) as u16;
     write_records(pool, w, pages);
-    Formatted::Pages(pages)
+    Ok(pages)
 }

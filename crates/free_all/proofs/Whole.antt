@@ -1,4 +1,5 @@
 -- On validated records the list tried in code decides the call, and is taken back; then it is refused, or freed.
+use Rattle.std.specs.Prelude.{Result, Ok, Err}
 use mathlib.Core.Path.{◌≡◌, sym, ap, ◌∙◌}
 use mathlib.Core.Logic.{◌≢◌}
 use mathlib.Core.List.{List}
@@ -6,6 +7,7 @@ use Prim.Native.Nat.{ℕ, ◌≤◌, ◌<◌}
 use native.Mathlib.Nat.{zero-add}
 use native.Mathlib.Omega.{arith}
 use lib.ListN.{length, take}
+use Rattle.answers.specs.declared.Refusal.{Refusal}
 use Rattle.answers.specs.Outcome.{number_of, Outcome, granted}
 use Rattle.answers.specs.declared.Refusal.TheVariants.{NotSound}
 use Rattle.rules.specs.Bytes.{pages_in, broken_rule}
@@ -16,7 +18,7 @@ use Rattle.free_all_bytes.specs.FreeAll.{free_all_answered, completed, free_all_
 use Rattle.free_all_bytes.proofs.Claim.{claims}
 use Rattle.free_all_trial.proofs.Claim.{decides}
 use Rattle.free_all_mark.proofs.Trying.{Trying, sound_trying}
-use Rattle.free_all_list.specs.declared.TriedList.{TriedList}
+use Rattle.free_all_list.specs.declared.Stop.{Stop}
 use Rattle.free_all_list.specs.Mirror.{list_tried, list_marked, list_back, granted_of, completion_of}
 use Rattle.free_all_list.proofs.Meets.{answer-is, granted_in, all_back}
 
@@ -39,7 +41,7 @@ module _ {w : ℕ} {s : List ℕ} {pages : ℕ} (G : Validated w s pages) where
     tried-is = ap (λ (P : ℕ). completion_of (list_tried w s P 0 offs)) G.counted ∙ answer-is w s trying 0 offs ∙ decides w s S offs
 
     -- of the list tried, r, with n granted, which left v and is taken back to u
-    module _ (r : TriedList) (n : ℕ) (tried : r ≡ list_tried w s pages 0 offs) (many : n ≡ granted_of r (length offs)) where
+    module _ (r : Result (Unit {0}) Stop) (n : ℕ) (tried : r ≡ list_tried w s pages 0 offs) (many : n ≡ granted_of r (length offs)) where
       pub granted-low : n ≤ length offs
       granted-low = rw (many, tried) (rw (zero-add (length offs)) at (granted_in w s pages 0 offs).1)
 
@@ -62,7 +64,7 @@ module _ {w : ℕ} {s : List ℕ} {pages : ℕ} (G : Validated w s pages) where
     few : (n : ℕ) → (free_all_outcome w s offs).value ≡ n → n < 4294967296
     few n e = omega (arith, (claims.on_sound w s S offs).few, e, (fits w s S).size, (fits w s S).few)
 
-    module _ (r : TriedList) (t : completion_of r ≡ free_all_answered w s offs) where
+    module _ (r : Result (Unit {0}) Stop) (t : completion_of r ≡ free_all_answered w s offs) where
       pub done-few : completion_of r ≡ done → length offs < 4294967296
       unfolding free_all_outcome
       done-few e = few (length offs) (ap (λ (a : Completion). (completed (length offs) a).value) (sym t ∙ e))

@@ -10,7 +10,7 @@ ghost use Rattle.free_all_list.specs.Mirror.{completion_of};
 ghost use Rattle.free_all.specs.Outcome.{of_free_all};
 
 use answers::{Offset, Refusal};
-use free_all_list::{Stop, TriedList};
+use free_all_list::Stop;
 
 // The first offset that could not be freed, by its place from 0. A list has fewer than 2^32 offsets before it: they are of live blocks.
 #[derive(Clone, Copy)]
@@ -19,30 +19,26 @@ pub struct Failed {
     pub refusal: Refusal,
 }
 
-#[derive(Clone, Copy)]
-pub enum FreedAll {
-    // how many blocks were given back
-    Blocks(u32),
-    Refused(Failed),
+// The refusal of the pool itself stands at the first place.
+impl From<Refusal> for Failed {
+    ghost from_gives = { λ r f. f ≡ record { place = 0; refusal = r } };
+
+    fn from(refusal: Refusal) -> Failed {
+        Failed { place: 0, refusal }
+    }
 }
 
 // Gives back the blocks at all offsets, or none where single frees in that order would not all succeed.
-pub fn free_all(pool: &mut [u8], w: u8, offsets: &[u32]) -> FreedAll
+pub fn free_all(pool: &mut [u8], w: u8, offsets: &[u32]) -> Result<u32, Failed>
     requires { 2 ≤ w }
     ensures answer { of_free_all result ≡ free_all_outcome w pool.old offsets.now }
     ensures slice { pool.new ≡ free_all_after w pool.old offsets.now }
 {
-    if !validate::validate(pool, w) {
-        return FreedAll::Refused(Failed {
-            place: 0,
-            refusal: Refusal::NotSound,
-        });
-    }
-    let pages = calls::pages_in(w, pool.len());
+    let pages = calls::sound_pages(pool, w)?;
     on_sound(pool, w, pages, offsets)
 }
 
-fn on_sound(pool: &mut [u8], w: u8, pages: u16, offsets: &[u32]) -> FreedAll
+fn on_sound(pool: &mut [u8], w: u8, pages: u16, offsets: &[u32]) -> Result<u32, Failed>
     requires { Validated w pool.old pages }
     ensures answer { of_free_all result ≡ free_all_outcome w pool.old offsets.now }
     ensures slice { pool.new ≡ free_all_after w pool.old offsets.now }
@@ -54,43 +50,47 @@ fn on_sound(pool: &mut [u8], w: u8, pages: u16, offsets: &[u32]) -> FreedAll
 }
 
 // After the trial, with its marks taken back.
-fn finish(pool: &mut [u8], w: u8, pages: u16, offsets: &[u32], t: TriedList) -> FreedAll
+fn finish(
+    pool: &mut [u8],
+    w: u8,
+    pages: u16,
+    offsets: &[u32],
+    t: Result<(), Stop>,
+) -> Result<u32, Failed>
     requires { Validated w pool.old pages × (completion_of t ≡ free_all_answered w pool.old offsets.now) }
     ensures answer { of_free_all result ≡ free_all_outcome w pool.old offsets.now }
     ensures slice { pool.new ≡ free_all_after w pool.old offsets.now }
 {
     match t {
-        TriedList::Granted => free_whole(pool, w, pages, offsets),
-        TriedList::Stopped(x) => refused_at(x),
+        Ok(()) => free_whole(pool, w, pages, offsets),
+        Err(x) => Err(failed_at(x)),
     }
 }
 
-fn refused_at(x: Stop) -> FreedAll
+fn failed_at(x: Stop) -> Failed
     requires { x.place < 4294967296 }
-    ensures { of_free_all result ≡ record { number = number_of x.refusal; value = x.place } }
+    ensures { result ≡ record { place = x.place; refusal = x.refusal } }
 {
-    let place = x.place as u32;
-    let refusal = x.refusal;
-    FreedAll::Refused(Failed { place, refusal })
+    Failed {
+        place: x.place as u32,
+        refusal: x.refusal,
+    }
 }
 
-fn free_whole(pool: &mut [u8], w: u8, pages: u16, offsets: &[u32]) -> FreedAll
+fn free_whole(pool: &mut [u8], w: u8, pages: u16, offsets: &[u32]) -> Result<u32, Failed>
     requires { Validated w pool.old pages × (length offsets.now < 4294967296) }
     ensures answer { of_free_all result ≡ granted (length offsets.now) }
     ensures slice { pool.new ≡ freed_each w pool.old offsets.now }
 {
     free_each(pool, w, pages, offsets);
-    FreedAll::Blocks(offsets.len() as u32)
+    Ok(offsets.len() as u32)
 }
 
 fn free_each(pool: &mut [u8], w: u8, pages: u16, offsets: &[u32])
     requires { Validated w pool.old pages }
     ensures { pool.new ≡ freed_each w pool.old offsets.now }
 {
-    let mut i = 0;
-    while i < offsets.len() {
-        let x = offsets[i];
-        serve::free_sound(pool, w, pages, Offset(x));
-        i += 1;
+    for x in offsets {
+        let _ = serve::free_sound(pool, w, pages, Offset(*x));
     }
 }

@@ -1,4 +1,5 @@
 -- The steps of the loops over the offsets.
+use Rattle.std.specs.Prelude.{Result, Ok, Err}
 use mathlib.Core.Path.{◌≡◌, refl, sym, ap, ◌∙◌}
 use mathlib.Core.Bool.{true, false}
 use mathlib.Core.List.{List, [], ◌∷◌, ◌++◌}
@@ -8,11 +9,8 @@ use native.Mathlib.Omega.{arith}
 use lib.ListN.{length, get_or, take, drop}
 use lib.Seq.{drop-cons, take-suc}
 use Rattle.answers.specs.declared.Refusal.{Refusal}
-use Rattle.free_all_try.specs.declared.Tried.{Tried}
-use Rattle.free_all_try.specs.declared.Tried.TheVariants as tried
 use Rattle.free_all_try.specs.Mirror.{offset_tried}
 use Rattle.free_all_mark.specs.Mirror.{offset_put}
-use Rattle.free_all_list.specs.declared.TriedList.TheVariants as list
 use Rattle.free_all_list.specs.Mirror.{list_tried, list_marked, list_back}
 
 pub drop_all : (i : ℕ) (xs : List ℕ) → length xs ≤ i → drop i xs ≡ []
@@ -32,20 +30,20 @@ pub at-start : (w : ℕ) (s : List ℕ) (P : ℕ) (offs : List ℕ) → At w s P
 at-start w s P offs = record { answer = refl; marked = refl }
 
 module _ (w : ℕ) (s : List ℕ) (P : ℕ) (offs : List ℕ) (i : ℕ) (t : List ℕ) where
-  pub at-end : length offs ≤ i → At w s P offs i t → (list.Granted ≡ list_tried w s P 0 offs) × (t ≡ list_marked w s P offs)
+  pub at-end : length offs ≤ i → At w s P offs i t → (Ok tt ≡ list_tried w s P 0 offs) × (t ≡ list_marked w s P offs)
   unfolding list_tried list_marked
   at-end h a = (rw (drop_all i offs h) at a.answer, rw (drop_all i offs h) at a.marked)
 
-  module _ (x : ℕ) (y : Tried) (here : i < length offs) (read : x ≡ get_or offs i 0) (asked : y ≡ offset_tried w t P x) where
+  module _ (x : ℕ) (y : Result (Unit {0}) Refusal) (here : i < length offs) (read : x ≡ get_or offs i 0) (asked : y ≡ offset_tried w t P x) where
     first : drop i offs ≡ x ∷ drop (suc i) offs
     first = drop-cons offs i 0 here ∙ ap (λ (z : ℕ). z ∷ drop (suc i) offs) (sym read)
 
-    pub at-refused : (r : Refusal) → y ≡ tried.Refused r → At w s P offs i t →
-        (list.Stopped (record { place = i; refusal = r }) ≡ list_tried w s P 0 offs) × (t ≡ list_marked w s P offs)
+    pub at-refused : (r : Refusal) → y ≡ Err r → At w s P offs i t →
+        (Err (record { place = i; refusal = r }) ≡ list_tried w s P 0 offs) × (t ≡ list_marked w s P offs)
     unfolding list_tried list_marked
     at-refused r e a = (rw (first, ← asked, e) at a.answer, rw (first, ← asked, e) at a.marked)
 
-    pub at_next : y ≡ tried.Granted → (u : List ℕ) → u ≡ offset_put false w t P x → At w s P offs i t → At w s P offs (i + 1) u
+    pub at_next : y ≡ Ok tt → (u : List ℕ) → u ≡ offset_put false w t P x → At w s P offs i t → At w s P offs (i + 1) u
     unfolding list_tried list_marked
     at_next e u f a = rw (add-one i, f) (record { answer = rw (first, ← asked, e) at a.answer; marked = rw (first, ← asked, e) at a.marked })
 

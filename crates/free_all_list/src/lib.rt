@@ -7,7 +7,6 @@ ghost use Rattle.classes.specs.Mirror.{Whole};
 ghost use Rattle.free_all_list.specs.Mirror.{list_tried, list_marked, list_back, granted_of};
 
 use answers::{Offset, Refusal};
-use free_all_try::Tried;
 
 // The first offset that is refused, by its place from 0.
 #[derive(Clone, Copy)]
@@ -16,45 +15,28 @@ pub struct Stop {
     pub refusal: Refusal,
 }
 
-#[derive(Clone, Copy)]
-pub enum TriedList {
-    Granted,
-    Stopped(Stop),
-}
-
 // Tries the offsets in order and clears the marks of the granted ones, up to the first that is refused.
-pub fn try_list(pool: &mut [u8], w: u8, pages: u16, offsets: &[u32]) -> TriedList
+pub fn try_list(pool: &mut [u8], w: u8, pages: u16, offsets: &[u32]) -> Result<(), Stop>
     requires { Whole w pool.old pages }
     ensures answer { result ≡ list_tried w pool.old pages 0 offsets.now }
     ensures slice { pool.new ≡ list_marked w pool.old pages offsets.now }
 {
-    let mut i = 0;
-    while i < offsets.len() {
-        let x = offsets[i];
-        let t = free_all_try::try_offset(pool, w, pages, Offset(x));
-        match t {
-            Tried::Refused(r) => {
-                return TriedList::Stopped(Stop {
-                    place: i,
-                    refusal: r,
-                });
-            }
-            Tried::Granted => {
-                free_all_mark::put_offset(pool, w, pages, Offset(x), false);
-            }
+    for (i, x) in offsets.iter().enumerate() {
+        match free_all_try::try_offset(pool, w, pages, Offset(*x)) {
+            Ok(()) => free_all_mark::put_offset(pool, w, pages, Offset(*x), false),
+            Err(refusal) => return Err(Stop { place: i, refusal }),
         }
-        i += 1;
     }
-    TriedList::Granted
+    Ok(())
 }
 
 // How many of `n` offsets were granted.
-pub fn granted(t: TriedList, n: usize) -> usize
+pub fn granted(t: Result<(), Stop>, n: usize) -> usize
     ensures { result ≡ granted_of t n }
 {
     match t {
-        TriedList::Granted => n,
-        TriedList::Stopped(x) => x.place,
+        Ok(()) => n,
+        Err(x) => x.place,
     }
 }
 
@@ -63,10 +45,7 @@ pub fn take_back(pool: &mut [u8], w: u8, pages: u16, offsets: &[u32], n: usize)
     requires { n ≤ length offsets.now }
     ensures { pool.new ≡ list_back w pool.old pages (take n offsets.now) }
 {
-    let mut i = n;
-    while 0 < i {
-        i -= 1;
-        let x = offsets[i];
-        free_all_mark::put_offset(pool, w, pages, Offset(x), true);
+    for i in (0..n).rev() {
+        free_all_mark::put_offset(pool, w, pages, Offset(offsets[i]), true);
     }
 }

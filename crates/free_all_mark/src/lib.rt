@@ -3,7 +3,6 @@
 #![tactic(auto)]
 
 ghost use Rattle.std.specs.Prelude.{◌≡◌, ◌≤◌};
-ghost use Rattle.maps.specs.Bitmap.{with_mark};
 ghost use Rattle.model.specs.Classes.{chunk};
 ghost use Rattle.free_all_mark.specs.Mirror.{sized_put, class_put, run_put, kind_put, page_put, offset_put};
 
@@ -47,7 +46,7 @@ fn put_run(pool: &mut [u8], w: u8, pages: u16, p: PageNumber, live: bool)
     ensures { pool.new ≡ run_put live w pool.old pages p.0 }
 {
     let base = map_places::map_base(w, pages, p, 3);
-    mark_as(pool, base, 0, !live)
+    map_marks::put_mark(pool, base, 0, !live)
 }
 
 fn put_class(pool: &mut [u8], w: u8, pages: u16, c: u8, p: PageNumber, q: u32, live: bool)
@@ -80,15 +79,5 @@ fn put_sized(
     ensures { pool.new ≡ sized_put live w pool.old pages c p.0 q size }
 {
     let base = map_places::map_base(w, pages, p, c);
-    mark_as(pool, base, (q / size % 65536) as u16, live)
-}
-
-fn mark_as(pool: &mut [u8], base: u32, i: u16, live: bool)
-    ensures { pool.new ≡ with_mark pool.old base i live }
-{
-    if live {
-        map_marks::set_mark(pool, base, i)
-    } else {
-        map_marks::clear_mark(pool, base, i)
-    }
+    map_marks::put_mark(pool, base, (q / size % 65536) as u16, live)
 }

@@ -1,4 +1,5 @@
 -- The answer in the order of code is that of the trial.
+use Rattle.std.specs.Prelude.{Result, Ok, Err}
 use mathlib.Core.Path.{◌≡◌, refl, sym, ap, ◌∙◌}
 use mathlib.Core.Logic.{◌⊎◌, inl, inr}
 use mathlib.Core.Bool.{Bool, true, false, cond, ◌&&◌, not}
@@ -14,6 +15,7 @@ use Rattle.base.proofs.Cases.{clash, decided, lt?}
 use Rattle.base.proofs.Search.{any_some, any_false}
 use Rattle.base.proofs.AllBelow.{all-at, at_all}
 use Rattle.records.specs.Page.{links_at}
+use Rattle.answers.specs.declared.Refusal.{Refusal}
 use Rattle.answers.specs.declared.Refusal.TheVariants.{NotTaken, NotAStart}
 use Rattle.maps.specs.Bitmap.{mark}
 use Rattle.model.specs.Classes.{chunk, chunks, own, has_taken, starts_chunk}
@@ -29,7 +31,6 @@ use Rattle.free_all_trial.specs.Mirror.{shown_page, shown_trial}
 use Rattle.free_all_trial.proofs.Changed.{page-is, page-none}
 use Rattle.free_all_trial.proofs.Put.{mark-low}
 use Rattle.locate.specs.Mirror.{past_found, start_found, sized_found, offset_found, class_found, run_found, kind_found, page_found, located}
-use Rattle.free_all_try.specs.declared.Tried.TheVariants as tried
 use Rattle.free_all_try.specs.Mirror.{held_at, unheld_at, emptied, flagged, first_kind, inner_flagged, kind_released, released, off_start, refused_tried, run_tried, chunk_tried, found_tried, offset_tried, tried_verdict}
 
 pick-cond : (b : Bool) (x y : ℕ) → pick b x y ≡ cond b x y
@@ -38,7 +39,7 @@ pick-cond true x y = refl
 pick-cond false x y = refl
 
 -- off a block's start, by whether its page is released
-by-release : (b : Bool) → tried_verdict (pick b (tried.Refused NotTaken) (tried.Refused NotAStart)) ≡ verdict (cond b (no not_taken) (no not_a_start))
+by-release : (b : Bool) → tried_verdict (pick b (Err NotTaken) (Err NotAStart)) ≡ verdict (cond b (no not_taken) (no not_a_start))
 unfolding pick not_taken not_a_start
 by-release true = refl
 by-release false = refl
@@ -77,7 +78,7 @@ module _ (w : ℕ) (s : List ℕ) where
     unfolding refused_tried off_start pick not_a_start not_taken
     off-is = rw freed-with (go (has_taken c (mark_at w s p c)))
       where
-        go : (b : Bool) → tried_verdict (pick (not b) (tried.Refused NotTaken) (tried.Refused NotAStart)) ≡ verdict (cond b (no 7) (no 6))
+        go : (b : Bool) → tried_verdict (pick (not b) (Err NotTaken) (Err NotAStart)) ≡ verdict (cond b (no 7) (no 6))
         go true = refl
         go false = refl
 
@@ -85,7 +86,7 @@ module _ (w : ℕ) (s : List ℕ) where
     unfolding chunk_tried pick not_taken
     mark-is i l = rw (mark-low w s p c i l) (go (mark s (map_base w P p c) i))
       where
-        go : (b : Bool) → tried_verdict (pick b tried.Granted (tried.Refused NotTaken)) ≡ verdict (cond b (freed (chunk c)) (no 6))
+        go : (b : Bool) → tried_verdict (pick b (Ok tt) (Err NotTaken)) ≡ verdict (cond b (freed (chunk c)) (no 6))
         go true = refl
         go false = refl
 
@@ -121,7 +122,7 @@ module _ (w : ℕ) (s : List ℕ) where
   unfolding run_found run_tried refused_tried off_start tried_at pick not_taken not_a_start
   run_is p n r q e f = go (eqb q 0) refl (sym (flag_is p n e))
     where
-      live : (b : Bool) → tried_verdict (pick b (tried.Refused NotTaken) tried.Granted) ≡ verdict (cond b (no 6) (freed (4096 * n)))
+      live : (b : Bool) → tried_verdict (pick b (Err NotTaken) (Ok tt)) ≡ verdict (cond b (no 6) (freed (4096 * n)))
       live true = refl
       live false = refl
 

@@ -1,5 +1,5 @@
 -- What a free of one offset answers on tentative marks, in the order of code. P is the number of pages.
-use Rattle.std.specs.Prelude.{Bool, false, not, List, ℕ, zero, suc, ◌/◌, ◌%◌, eqb, ltb}
+use Rattle.std.specs.Prelude.{Bool, false, not, List, ℕ, zero, suc, ◌/◌, ◌%◌, eqb, ltb, Result, Ok, Err}
 use Rattle.base.specs.Tests.{pick, all_below}
 use Rattle.answers.specs.Outcome.{number_of}
 use Rattle.answers.specs.declared.Refusal.{Refusal}
@@ -13,8 +13,6 @@ use Rattle.rules.specs.Bytes.{map_base}
 use Rattle.locate.specs.declared.Found.{Found}
 use Rattle.locate.specs.declared.Found.TheVariants as found
 use Rattle.locate.specs.Mirror.{located}
-use Rattle.free_all_try.specs.declared.Tried.{Tried}
-use Rattle.free_all_try.specs.declared.Tried.TheVariants as tried
 
 -- ---- a page that is free once the granted offsets are
 
@@ -51,28 +49,28 @@ released w s P p = kind_released w s P p (links_at w s p)
 
 -- ---- the answer, by what the marks say of the offset
 
-unfoldable pub off_start : (w : ℕ) (s : List ℕ) (P p : ℕ) → Tried
-off_start w s P p = pick (released w s P p) (tried.Refused NotTaken) (tried.Refused NotAStart)
+unfoldable pub off_start : (w : ℕ) (s : List ℕ) (P p : ℕ) → Result (Unit {0}) Refusal
+off_start w s P p = pick (released w s P p) (Err NotTaken) (Err NotAStart)
 
-unfoldable pub refused_tried : (w : ℕ) (s : List ℕ) (P p : ℕ) → Refusal → Tried
-refused_tried w s P p r = pick (eqb (number_of r) 7) (off_start w s P p) (tried.Refused r)
+unfoldable pub refused_tried : (w : ℕ) (s : List ℕ) (P p : ℕ) → Refusal → Result (Unit {0}) Refusal
+refused_tried w s P p r = pick (eqb (number_of r) 7) (off_start w s P p) (Err r)
 
-unfoldable pub run_tried : (w : ℕ) (s : List ℕ) (P p : ℕ) → Tried
-run_tried w s P p = pick (flagged w s P p) (tried.Refused NotTaken) tried.Granted
+unfoldable pub run_tried : (w : ℕ) (s : List ℕ) (P p : ℕ) → Result (Unit {0}) Refusal
+run_tried w s P p = pick (flagged w s P p) (Err NotTaken) (Ok tt)
 
 -- chunk i of page p, of class c
-unfoldable pub chunk_tried : (w : ℕ) (s : List ℕ) (P c p i : ℕ) → Tried
-chunk_tried w s P c p i = pick (mark s (map_base w P p c) i) tried.Granted (tried.Refused NotTaken)
+unfoldable pub chunk_tried : (w : ℕ) (s : List ℕ) (P c p i : ℕ) → Result (Unit {0}) Refusal
+chunk_tried w s P c p i = pick (mark s (map_base w P p c) i) (Ok tt) (Err NotTaken)
 
-abbrev pub found_tried : (w : ℕ) (s : List ℕ) (P p : ℕ) → Found → Tried
-found_tried w s P p (found.Chunk k) = chunk_tried w s P k.class k.page.0 (k.index % 512)
-found_tried w s P p (found.Run r) = run_tried w s P p
-found_tried w s P p (found.Refused r) = refused_tried w s P p r
+abbrev pub found_tried : (w : ℕ) (s : List ℕ) (P p : ℕ) → Result Found Refusal → Result (Unit {0}) Refusal
+found_tried w s P p (Ok (found.Chunk k)) = chunk_tried w s P k.class k.page.0 (k.index % 512)
+found_tried w s P p (Ok (found.Run r)) = run_tried w s P p
+found_tried w s P p (Err r) = refused_tried w s P p r
 
-unfoldable pub offset_tried : (w : ℕ) (s : List ℕ) (P off : ℕ) → Tried
+unfoldable pub offset_tried : (w : ℕ) (s : List ℕ) (P off : ℕ) → Result (Unit {0}) Refusal
 offset_tried w s P off = found_tried w s P (off / 4096 % 65536) (located w s P off)
 
 -- the answer as a verdict of the model
-abbrev pub tried_verdict : Tried → Verdict
-tried_verdict tried.Granted = granted
-tried_verdict (tried.Refused r) = refused (number_of r)
+abbrev pub tried_verdict : Result (Unit {0}) Refusal → Verdict
+tried_verdict (Ok _) = granted
+tried_verdict (Err r) = refused (number_of r)

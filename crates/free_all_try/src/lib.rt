@@ -3,7 +3,7 @@
 // `w` is the number of words of a class record, `pages` the pages of the pool.
 #![tactic(auto)]
 
-ghost use Rattle.std.specs.Prelude.{◌≡◌};
+ghost use Rattle.std.specs.Prelude.{◌≡◌, Ok};
 ghost use Rattle.base.specs.Tests.{all_below};
 ghost use Rattle.maps.specs.Bitmap.{mark};
 ghost use Rattle.rules.specs.Bytes.{map_base};
@@ -14,42 +14,38 @@ use answers::{Offset, Refusal};
 use locate::Found;
 use records::{CLASS_PAGE, FIRST_TAKEN, Links, PAGE, PageNumber};
 
-#[derive(Clone, Copy)]
-pub enum Tried {
-    Granted,
-    Refused(Refusal),
-}
-
-pub fn try_offset(pool: &[u8], w: u8, pages: u16, at: Offset) -> Tried
+pub fn try_offset(pool: &[u8], w: u8, pages: u16, at: Offset) -> Result<(), Refusal>
     requires { Whole w pool.now pages }
     ensures { result ≡ offset_tried w pool.now pages at.0 }
 {
     let x = at.0;
-    let f = locate::locate(pool, w, pages, at);
-    try_found(pool, w, pages, PageNumber((x / PAGE % 65536) as u16), f)
+    let p = PageNumber((x / PAGE % 65536) as u16);
+    match locate::locate(pool, w, pages, at) {
+        Ok(found) => try_found(pool, w, pages, p, found),
+        Err(r) => try_refused(pool, w, pages, p, r),
+    }
 }
 
-fn try_found(pool: &[u8], w: u8, pages: u16, p: PageNumber, f: Found) -> Tried
-    ensures { result ≡ found_tried w pool.now pages p.0 f }
+fn try_found(pool: &[u8], w: u8, pages: u16, p: PageNumber, found: Found) -> Result<(), Refusal>
+    ensures { result ≡ found_tried w pool.now pages p.0 (Ok found) }
 {
-    match f {
+    match found {
         Found::Chunk(k) => {
             let i = (k.index % 512) as u16;
-            try_chunk(pool, w, pages, k.class, PageNumber(k.page.0), i)
+            try_chunk(pool, w, pages, k.class, k.page, i)
         }
-        Found::Run(r) => try_run(pool, w, pages, p),
-        Found::Refused(r) => try_refused(pool, w, pages, p, r),
+        Found::Run(_) => try_run(pool, w, pages, p),
     }
 }
 
 // Chunk i of page p. Where its mark is clear it is free, or was given back before.
-fn try_chunk(pool: &[u8], w: u8, pages: u16, c: u8, p: PageNumber, i: u16) -> Tried
+fn try_chunk(pool: &[u8], w: u8, pages: u16, c: u8, p: PageNumber, i: u16) -> Result<(), Refusal>
     ensures { result ≡ chunk_tried w pool.now pages c p.0 i }
 {
     if is_marked(pool, w, pages, c, p, i) {
-        Tried::Granted
+        Ok(())
     } else {
-        Tried::Refused(Refusal::NotTaken)
+        Err(Refusal::NotTaken)
     }
 }
 
@@ -59,34 +55,33 @@ fn is_marked(pool: &[u8], w: u8, pages: u16, c: u8, p: PageNumber, i: u16) -> bo
     map_marks::get_mark(pool, map_places::map_base(w, pages, p, c), i)
 }
 
-fn try_run(pool: &[u8], w: u8, pages: u16, p: PageNumber) -> Tried
+fn try_run(pool: &[u8], w: u8, pages: u16, p: PageNumber) -> Result<(), Refusal>
     ensures { result ≡ run_tried w pool.now pages p.0 }
 {
     if is_flagged(pool, w, pages, p) {
-        Tried::Refused(Refusal::NotTaken)
+        Err(Refusal::NotTaken)
     } else {
-        Tried::Granted
+        Ok(())
     }
 }
 
-// A refusal stands, but for 7 in a page that would be free.
-fn try_refused(pool: &[u8], w: u8, pages: u16, p: PageNumber, r: Refusal) -> Tried
+// A refusal stands, but for `NotAStart` in a page that would be free.
+fn try_refused(pool: &[u8], w: u8, pages: u16, p: PageNumber, r: Refusal) -> Result<(), Refusal>
     ensures { result ≡ refused_tried w pool.now pages p.0 r }
 {
-    if answers::number(r) == 7 {
-        off_start(pool, w, pages, p)
-    } else {
-        Tried::Refused(r)
+    match r {
+        Refusal::NotAStart => off_start(pool, w, pages, p),
+        _ => Err(r),
     }
 }
 
-fn off_start(pool: &[u8], w: u8, pages: u16, p: PageNumber) -> Tried
+fn off_start(pool: &[u8], w: u8, pages: u16, p: PageNumber) -> Result<(), Refusal>
     ensures { result ≡ off_start w pool.now pages p.0 }
 {
     if is_released(pool, w, pages, p) {
-        Tried::Refused(Refusal::NotTaken)
+        Err(Refusal::NotTaken)
     } else {
-        Tried::Refused(Refusal::NotAStart)
+        Err(Refusal::NotAStart)
     }
 }
 
@@ -129,13 +124,11 @@ fn is_inner_flagged(pool: &[u8], w: u8, pages: u16, p: PageNumber) -> bool
 fn first_kind(pool: &[u8], w: u8, p: u16) -> u16
     ensures { result ≡ first_kind w pool.now p }
 {
-    let mut i = p;
-    while 0 < i {
-        let l = record_page::get_links(pool, w, PageNumber(i - 1));
+    for i in (0..p).rev() {
+        let l = record_page::get_links(pool, w, PageNumber(i));
         if l.kind == FIRST_TAKEN {
-            return i - 1;
+            return i;
         }
-        i -= 1;
     }
     0
 }
@@ -154,12 +147,10 @@ fn is_emptied(pool: &[u8], w: u8, pages: u16, c: u8, p: PageNumber) -> bool
 fn all_unheld(pool: &[u8], base: u32, owned: u16, n: u16) -> bool
     ensures { result ≡ all_below (unheld_at pool.now base owned) n }
 {
-    let mut i = 0;
-    while i < n {
+    for i in 0..n {
         if !unheld_at(pool, base, owned, i) {
             return false;
         }
-        i += 1;
     }
     true
 }

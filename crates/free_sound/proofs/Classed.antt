@@ -1,4 +1,5 @@
 -- A chunk that is found is of one of the nine classes, of one of the pages, and one of its page's chunks.
+use Rattle.std.specs.Prelude.{Result, Ok, Err}
 use mathlib.Core.Path.{◌≡◌, refl}
 use mathlib.Core.Bool.{Bool, true, false}
 use mathlib.Core.List.{List}
@@ -13,11 +14,12 @@ use Rattle.records.specs.Page.{links_at}
 use Rattle.model.specs.Classes.{chunk, chunks, own}
 use Rattle.model.proofs.Classes.{chunk_index}
 use Rattle.classes.proofs.Numbers.{chunks_512}
+use Rattle.answers.specs.declared.Refusal.{Refusal}
 use Rattle.locate.specs.declared.Found.{Found}
 use Rattle.locate.specs.Mirror.{past_found, start_found, sized_found, offset_found, class_found, run_found, kind_found, page_found, located}
 use Rattle.free_sound.specs.Mirror.{Classed}
 
-either : (P : ℕ) (t : Bool) (a b : Found) → (t ≡ true → Classed P a) → (t ≡ false → Classed P b) → Classed P (pick t a b)
+either : (P : ℕ) (t : Bool) (a b : Result Found Refusal) → (t ≡ true → Classed P a) → (t ≡ false → Classed P b) → Classed P (pick t a b)
 unfolding pick
 either P true a b h k = h refl
 either P false a b h k = k refl

@@ -1,33 +1,29 @@
 -- What the calls on a gauge answer, and the gauge afterwards (SPEC 15), for every gauge, level and count.
 -- A load or level is a float: not a number, an infinity, or m · 2 ^ e with a sign, which 0 has too.
-use Rattle.std.specs.Prelude.{ℕ, ◌+◌, Bool, false, pos, leb, eqb, Float}
+use Rattle.std.specs.Prelude.{ℕ, ◌+◌, Bool, false, pos, leb, eqb, Float, Result, Ok, Err}
 use Rattle.std.specs.Float.Ieee as Ieee
 use Rattle.std.specs.Float.{fin, binary64}
 use Rattle.base.specs.Tests.{pick}
 use Rattle.base.specs.Count.{bit}
 use Rattle.answers.specs.Outcome.{Outcome, granted, refused}
+use Rattle.answers.specs.declared.Refusal.{Refusal}
 use Rattle.answers.specs.declared.Refusal.TheVariants.{OutOfRange}
 use Rattle.gauge.specs.declared.Gauge.{Gauge}
-use Rattle.gauge.specs.declared.Gauged.{Gauged}
-use Rattle.gauge.specs.declared.Gauged.TheVariants as gauged
-use Rattle.gauge.specs.declared.Tripped.{Tripped}
-use Rattle.gauge.specs.declared.Tripped.TheVariants as tripped
 
 -- ---- answers
 
-abbrev pub of_gauge : Gauged → Outcome
-of_gauge (gauged.Now g) = granted 0
-of_gauge (gauged.Refused r) = refused r
+abbrev pub of_gauge : Result Gauge Refusal → Outcome
+of_gauge (Ok g) = granted 0
+of_gauge (Err r) = refused r
 
 -- the gauge afterwards, where it was `kept` before: a refusal leaves it
-abbrev pub gauge_in : (kept : Gauge) → Gauged → Gauge
-gauge_in kept (gauged.Now g) = g
-gauge_in kept (gauged.Refused r) = kept
+abbrev pub gauge_in : (kept : Gauge) → Result Gauge Refusal → Gauge
+gauge_in kept (Ok g) = g
+gauge_in kept (Err r) = kept
 
-abbrev pub of_trip : Tripped → Outcome
-of_trip tripped.Yes = granted 1
-of_trip tripped.No = granted 0
-of_trip (tripped.Refused r) = refused r
+abbrev pub of_trip : Result Bool Refusal → Outcome
+of_trip (Ok above) = granted (bit above)
+of_trip (Err r) = refused r
 
 -- ---- the floats 0, 2 and 4,096
 

@@ -24,57 +24,38 @@ pub struct Gauge {
     pub samples: u32,
 }
 
-// What start and sample answer.
-#[derive(Clone, Copy)]
-pub enum Gauged {
-    Now(Gauge),
-    Refused(Refusal),
-}
-
-// What trips answers.
-#[derive(Clone, Copy)]
-pub enum Tripped {
-    Yes,
-    No,
-    Refused(Refusal),
-}
-
 // A gauge with this trip level, at load 0.
-pub fn start(level: f64) -> Gauged
+pub fn start(level: f64) -> Result<Gauge, Refusal>
     ensures answer { of_gauge result ≡ start_outcome level }
     ensures gauge { gauge_in blank result ≡ started level }
 {
     if in_range(level) {
-        Gauged::Now(fresh(level))
+        Ok(fresh(level))
     } else {
-        Gauged::Refused(Refusal::OutOfRange)
+        Err(Refusal::OutOfRange)
     }
 }
 
 // The gauge after one sample more, a count of pages in use.
-pub fn sample(gauge: Gauge, count: u32) -> Gauged
+pub fn sample(gauge: Gauge, count: u32) -> Result<Gauge, Refusal>
     ensures answer { of_gauge result ≡ sample_outcome gauge count }
     ensures gauge { gauge_in gauge result ≡ sampled gauge count }
 {
     if takes(gauge, count) {
-        Gauged::Now(advanced(begun(gauge), count))
+        Ok(advanced(begun(gauge), count))
     } else {
-        Gauged::Refused(Refusal::OutOfRange)
+        Err(Refusal::OutOfRange)
     }
 }
 
 // Whether the load is above the level.
-pub fn trips(gauge: Gauge) -> Tripped
+pub fn trips(gauge: Gauge) -> Result<bool, Refusal>
     ensures { of_trip result ≡ trip_outcome gauge }
 {
     if usable(gauge) {
-        if gauge.level < gauge.load {
-            Tripped::Yes
-        } else {
-            Tripped::No
-        }
+        Ok(gauge.level < gauge.load)
     } else {
-        Tripped::Refused(Refusal::OutOfRange)
+        Err(Refusal::OutOfRange)
     }
 }
 
@@ -84,30 +65,23 @@ pub fn trips(gauge: Gauge) -> Tripped
 fn in_range(x: f64) -> bool
     ensures { result ≡ in_range x }
 {
-    if 0.0 <= x { x <= 4096.0 } else { false }
+    0.0 <= x && x <= 4096.0
 }
 
 // Whether a call takes the gauge.
+#[tactic(auto, unfolding(crate::specs::Gauge::usable, base::specs::Tests::pick))]
 fn usable(gauge: Gauge) -> bool
     ensures { result ≡ usable gauge }
 {
-    let samples = gauge.samples;
-    if samples <= ROUND {
-        if in_range(gauge.load) {
-            in_range(gauge.level)
-        } else {
-            false
-        }
-    } else {
-        false
-    }
+    gauge.samples <= ROUND && in_range(gauge.load) && in_range(gauge.level)
 }
 
 // Whether the gauge takes a sample of this count.
+#[tactic(auto, unfolding(crate::specs::Gauge::takes, base::specs::Tests::pick))]
 fn takes(gauge: Gauge, count: u32) -> bool
     ensures { result ≡ takes gauge count }
 {
-    if usable(gauge) { count <= MOST } else { false }
+    usable(gauge) && count <= MOST
 }
 
 // ---- what a sample does
@@ -123,11 +97,11 @@ fn fresh(level: f64) -> Gauge
 }
 
 // The gauge before a sample: after a whole round it restarts at 0.
+#[tactic(auto, unfolding(crate::specs::Gauge::begun, base::specs::Tests::pick))]
 fn begun(gauge: Gauge) -> Gauge
     ensures { result ≡ begun gauge }
 {
-    let samples = gauge.samples;
-    if samples == ROUND {
+    if gauge.samples == ROUND {
         fresh(gauge.level)
     } else {
         gauge
@@ -135,17 +109,15 @@ fn begun(gauge: Gauge) -> Gauge
 }
 
 // The gauge with one sample more in its round.
+#[tactic(auto, unfolding(crate::specs::Gauge::advanced))]
 fn advanced(gauge: Gauge, count: u32) -> Gauge
     requires { gauge.samples < 40 }
     ensures { result ≡ advanced gauge count }
 {
-    let load = halves(gauge.load, count);
-    let level = gauge.level;
-    let samples = gauge.samples + 1;
     Gauge {
-        load,
-        level,
-        samples,
+        load: halves(gauge.load, count),
+        samples: gauge.samples + 1,
+        ..gauge
     }
 }
 

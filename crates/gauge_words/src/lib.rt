@@ -7,7 +7,7 @@ ghost use Rattle.answer_words.specs.Word.{word_of};
 ghost use Rattle.gauge.specs.Gauge.{blank, of_gauge, gauge_in, of_trip};
 
 use answers::Refusal;
-use gauge::{Gauge, Gauged, Tripped};
+use gauge::Gauge;
 
 // What a call answers, and the gauge afterwards; laid out as `struct dnk_gauge_reply` of the header.
 #[repr(C)]
@@ -29,13 +29,13 @@ pub fn blank() -> Gauge
 }
 
 // The reply of a call on the gauge `kept`, which stays where the call is refused.
-pub fn gauged_reply(kept: Gauge, gauged: Gauged) -> GaugeReply
+pub fn gauged_reply(kept: Gauge, gauged: Result<Gauge, Refusal>) -> GaugeReply
     ensures answer { result.answer ≡ word_of (of_gauge gauged) }
     ensures gauge { result.gauge ≡ gauge_in kept gauged }
 {
     match gauged {
-        Gauged::Now(gauge) => GaugeReply { answer: 0, gauge },
-        Gauged::Refused(r) => refused_reply(kept, r),
+        Ok(gauge) => GaugeReply { answer: 0, gauge },
+        Err(r) => refused_reply(kept, r),
     }
 }
 
@@ -47,12 +47,12 @@ fn refused_reply(gauge: Gauge, r: Refusal) -> GaugeReply
     GaugeReply { answer, gauge }
 }
 
-pub fn tripped_word(t: Tripped) -> u64
+pub fn tripped_word(t: Result<bool, Refusal>) -> u64
     ensures { result ≡ word_of (of_trip t) }
 {
     match t {
-        Tripped::Yes => 1,
-        Tripped::No => 0,
-        Tripped::Refused(r) => answer_words::refusal_word(r),
+        Ok(true) => 1,
+        Ok(false) => 0,
+        Err(r) => answer_words::refusal_word(r),
     }
 }

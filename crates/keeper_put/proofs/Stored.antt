@@ -1,4 +1,5 @@
 -- What the functions leave, on a sound pool and a sound directory, is what the definitions say.
+use Rattle.std.specs.Prelude.{Result, Ok, Err}
 use mathlib.Core.Path.{◌≡◌, refl, sym, ap, ◌∙◌, subst}
 use mathlib.Core.List.{List}
 use Prim.Native.Nat.{ℕ, ◌+◌, ◌≤◌, ◌<◌}
@@ -8,8 +9,7 @@ use Rattle.words.specs.Word.{Bytes}
 use Rattle.records.specs.Layout.{pages_from, page_count}
 use Rattle.copying.proofs.Laws.{length-lay}
 use Rattle.answers.specs.Outcome.{Outcome, granted, refused, of_alloc}
-use Rattle.answers.specs.declared.Allocated.{Allocated}
-use Rattle.answers.specs.declared.Allocated.TheVariants as allocated
+use Rattle.answers.specs.declared.Offset.{Offset}
 use Rattle.answers.specs.declared.Refusal.{Refusal}
 use Rattle.answers.proofs.Refusals.{number_counts}
 use Rattle.model.specs.Calls.{Alloc, Answer, at, freed, no, step}
@@ -91,12 +91,12 @@ module _ {w : ℕ} {s d : List ℕ} {pages : ℕ} (R : Ready w s d pages) where
         (rw (number_counts x))
 
     -- the copy fits
-    pub roomy : (a : Allocated) → of_alloc a ≡ o → Roomy (pages_from w pages) (length r) (length (after w s (Alloc (length r)))) a
-    roomy (allocated.At off) e =
+    pub roomy : (a : Result Offset Refusal) → of_alloc a ≡ o → Roomy (pages_from w pages) (length r) (length (after w s (Alloc (length r)))) a
+    roomy (Ok off) e =
         let l : pages_begin w s + off.0 + length r ≤ length (after w s (Alloc (length r))) =
         ends w G.pool.wide G.pool.narrow s d G.pool.bytes G.pool.sound both-ready key key16 r br P.some P.short i P.inside place off.0 (answered-at off.0 e) in
         subst (λ (n : ℕ). pages_from w n + off.0 + length r ≤ length (after w s (Alloc (length r)))) (sym G.counted) l
-    roomy (allocated.Refused x) e = tt
+    roomy (Err x) e = tt
 
     old_block : (off : ℕ) → granted off ≡ o →
         old_given w (record_laid (after w s (Alloc (length r))) (pages_from w pages + off) r) pages (entries d i) ≡
@@ -113,12 +113,12 @@ module _ {w : ℕ} {s d : List ℕ} {pages : ℕ} (R : Ready w s d pages) where
         same : length T ≡ length s
         same = length-lay (pages_begin w s + off) 0 r (length r) (after w s (Alloc (length r))) ∙ (demand1 w G.pool.wide G.pool.narrow s G.pool.bytes).length-kept (Alloc (length r))
 
-    pub put_met : (a : Allocated) → of_alloc a ≡ o →
+    pub put_met : (a : Result Offset Refusal) → of_alloc a ≡ o →
         (of_alloc a ≡ left.outcome) × (stored_pool w (after w s (Alloc (length r))) pages d i r a ≡ left.pool) × (stored_words d i key r a ≡ left.words)
     unfolding put_granted
-    put_met (allocated.At off) e =
+    put_met (Ok off) e =
         let l = granted-left off.0 e in
         (sym (ap (λ (x : Left). x.outcome) l), old_block off.0 e ∙ sym (ap (λ (x : Left). x.pool) l), sym (ap (λ (x : Left). x.words) l))
-    put_met (allocated.Refused x) e =
+    put_met (Err x) e =
         let l = refused-left x e in
         (sym (ap (λ (x : Left). x.outcome) l), sym (ap (λ (x : Left). x.pool) l), sym (ap (λ (x : Left). x.words) l))

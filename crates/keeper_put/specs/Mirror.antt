@@ -1,9 +1,9 @@
 -- What the functions are told of pool and directory, and what they leave, in the order of the code.
-use Rattle.std.specs.Prelude.{◌≡◌, true, List, ℕ, ◌+◌, ◌≤◌, ◌<◌, length, set}
+use Rattle.std.specs.Prelude.{◌≡◌, true, List, ℕ, ◌+◌, ◌≤◌, ◌<◌, length, set, Result, Ok, Err}
 use Rattle.base.specs.Tests.{pick}
 use Rattle.records.specs.Layout.{pages_from}
-use Rattle.answers.specs.declared.Allocated.{Allocated}
-use Rattle.answers.specs.declared.Allocated.TheVariants as allocated
+use Rattle.answers.specs.declared.Offset.{Offset}
+use Rattle.answers.specs.declared.Refusal.{Refusal}
 use Rattle.rules.specs.Bytes.{read}
 use Rattle.free_sound.specs.Mirror.{free_slice}
 use Rattle.sound_pools.specs.Sound.{Validated}
@@ -26,17 +26,17 @@ pub record Putting (w : ℕ) (s d : List ℕ) (i key : ℕ) (r : List ℕ) : Typ
   pub inside : i < length d
 
 -- a granted block has room for n bytes in a slice of so many, whose pages begin at `from`
-abbrev pub Roomy : (from n len : ℕ) → Allocated → Type 0
-Roomy from n len (allocated.At off) = from + off.0 + n ≤ len
-Roomy from n len (allocated.Refused r) = Unit {0}
+abbrev pub Roomy : (from n len : ℕ) → Result Offset Refusal → Type 0
+Roomy from n len (Ok off) = from + off.0 + n ≤ len
+Roomy from n len (Err r) = Unit {0}
 
 unfoldable pub old_given : (w : ℕ) (s : List ℕ) (pages : ℕ) → Entry → List ℕ
 old_given w s pages e = pick (is_empty e) s (free_slice w s pages e.off)
 
-abbrev pub stored_pool : (w : ℕ) (s : List ℕ) (pages : ℕ) (d : List ℕ) (i : ℕ) (r : List ℕ) → Allocated → List ℕ
-stored_pool w s pages d i r (allocated.At off) = old_given w (record_laid s (pages_from w pages + off.0) r) pages (entries d i)
-stored_pool w s pages d i r (allocated.Refused x) = s
+abbrev pub stored_pool : (w : ℕ) (s : List ℕ) (pages : ℕ) (d : List ℕ) (i : ℕ) (r : List ℕ) → Result Offset Refusal → List ℕ
+stored_pool w s pages d i r (Ok off) = old_given w (record_laid s (pages_from w pages + off.0) r) pages (entries d i)
+stored_pool w s pages d i r (Err x) = s
 
-abbrev pub stored_words : (d : List ℕ) (i key : ℕ) (r : List ℕ) → Allocated → List ℕ
-stored_words d i key r (allocated.At off) = set d i (word_of (record { key = key; len = length r; off = off.0 }))
-stored_words d i key r (allocated.Refused x) = d
+abbrev pub stored_words : (d : List ℕ) (i key : ℕ) (r : List ℕ) → Result Offset Refusal → List ℕ
+stored_words d i key r (Ok off) = set d i (word_of (record { key = key; len = length r; off = off.0 }))
+stored_words d i key r (Err x) = d

@@ -12,7 +12,7 @@ ghost use Rattle.keeper_words.specs.Words.{word_of, entry_of, entries};
 ghost use Rattle.keeper_bytes.specs.Requests.{record_laid, put_answered};
 ghost use Rattle.keeper_put.specs.Mirror.{Ready, Putting, Roomy, old_given, stored_pool, stored_words};
 
-use answers::{Allocated, Offset};
+use answers::{Offset, Refusal};
 
 // A record's length has 16 bits, so that it fits an alloc's size.
 pub fn put_in(
@@ -23,7 +23,7 @@ pub fn put_in(
     i: usize,
     key: u16,
     bytes: &[u8],
-) -> Allocated
+) -> Result<Offset, Refusal>
     requires { Ready w pool.old directory.old pages × Putting w pool.old directory.old i key bytes.now }
     ensures answer { of_alloc result ≡ (put_answered w pool.old directory.old i key bytes.now (answered w pool.old (Alloc (length bytes.now)))).outcome }
     ensures pool { pool.new ≡ (put_answered w pool.old directory.old i key bytes.now (answered w pool.old (Alloc (length bytes.now)))).pool }
@@ -43,16 +43,16 @@ fn store(
     i: usize,
     key: u16,
     bytes: &[u8],
-    a: Allocated,
-) -> Allocated
+    a: Result<Offset, Refusal>,
+) -> Result<Offset, Refusal>
     requires { Whole w pool.old pages × (i < length directory.old) × (length bytes.now ≤ 65535) × Roomy (pages_from w pages) (length bytes.now) (length pool.old) a }
     ensures answer { of_alloc result ≡ of_alloc a }
     ensures pool { pool.new ≡ stored_pool w pool.old pages directory.old i bytes.now a }
     ensures directory { directory.new ≡ stored_words directory.old i key bytes.now a }
 {
     match a {
-        Allocated::At(off) => store_at(pool, w, pages, directory, i, key, bytes, off),
-        Allocated::Refused(x) => Allocated::Refused(x),
+        Ok(off) => store_at(pool, w, pages, directory, i, key, bytes, off),
+        Err(x) => Err(x),
     }
 }
 
@@ -66,7 +66,7 @@ fn store_at(
     key: u16,
     bytes: &[u8],
     off: Offset,
-) -> Allocated
+) -> Result<Offset, Refusal>
     requires { Whole w pool.old pages × (i < length directory.old) × (length bytes.now ≤ 65535) × (pages_from w pages + off.0 + length bytes.now ≤ length pool.old) }
     ensures answer { of_alloc result ≡ granted off.0 }
     ensures pool { pool.new ≡ old_given w (record_laid pool.old (pages_from w pages + off.0) bytes.now) pages (entries directory.old i) }
@@ -77,7 +77,7 @@ fn store_at(
     let old = directory[i];
     directory[i] = keeper_words::word_of(key, bytes.len() as u16, off.0);
     give_old(pool, w, pages, old);
-    Allocated::At(off)
+    Ok(off)
 }
 
 // The byte of the slice at an offset.
@@ -96,5 +96,5 @@ fn give_old(pool: &mut [u8], w: u8, pages: u16, old: u64)
         return;
     }
     let off = keeper_words::off_of(old);
-    serve::free_sound(pool, w, pages, Offset(off));
+    let _ = serve::free_sound(pool, w, pages, Offset(off));
 }

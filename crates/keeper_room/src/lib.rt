@@ -2,7 +2,7 @@
 // `w` is the number of words of a class record, `pages` the pages of the pool.
 #![tactic(auto)]
 
-ghost use Rattle.std.specs.Prelude.{◌≡◌, ◌%◌, ◌≤◌, length};
+ghost use Rattle.std.specs.Prelude.{Ok, ◌≡◌, ◌%◌, ◌≤◌, length};
 ghost use Rattle.base.specs.Tests.{all_below};
 ghost use Rattle.map_occupancy.specs.Mirror.{bit_for};
 ghost use Rattle.rules.specs.Bytes.{read};
@@ -39,15 +39,9 @@ fn words_fit(pool: &[u8], w: u8, pages: u16, directory: &[u64]) -> bool
     requires { Validated w pool.now pages }
     ensures { result ≡ all_below (λ i. entry_ok (read w pool.now) (entries directory.now i)) (length directory.now) }
 {
-    let mut i = 0;
-    while i < directory.len() {
-        let word = directory[i];
-        if !word_fits(pool, w, pages, word) {
-            return false;
-        }
-        i += 1;
-    }
-    true
+    directory
+        .iter()
+        .all(|word| word_fits(pool, w, pages, *word))
 }
 
 // The word is 0, or its record fits the block at its offset.
@@ -65,18 +59,19 @@ pub fn room_at(pool: &[u8], w: u8, pages: u16, at: Offset) -> u32
     requires { Validated w pool.now pages }
     ensures { result ≡ room_at (read w pool.now) at.0 }
 {
-    let f = locate::locate(pool, w, pages, at);
-    room_of(pool, w, pages, f)
+    match locate::locate(pool, w, pages, at) {
+        Ok(found) => room_of(pool, w, pages, found),
+        Err(_) => 0,
+    }
 }
 
-fn room_of(pool: &[u8], w: u8, pages: u16, f: Found) -> u32
-    requires { Classed pages f }
-    ensures { result ≡ (found_outcome w pool.now pages f).value }
+fn room_of(pool: &[u8], w: u8, pages: u16, found: Found) -> u32
+    requires { Classed pages (Ok found) }
+    ensures { result ≡ (found_outcome w pool.now pages (Ok found)).value }
 {
-    match f {
+    match found {
         Found::Chunk(k) => chunk_room(pool, w, pages, k),
         Found::Run(r) => PAGE * r.pages as u32,
-        Found::Refused(x) => 0,
     }
 }
 
@@ -86,7 +81,7 @@ fn chunk_room(pool: &[u8], w: u8, pages: u16, k: ChunkAt) -> u32
     ensures { result ≡ (chunk_outcome w pool.now pages k.class k.page.0 (k.index % 512)).value }
 {
     let i = (k.index % 512) as u16;
-    if is_marked(pool, w, pages, k.class, PageNumber(k.page.0), i) {
+    if is_marked(pool, w, pages, k.class, k.page, i) {
         sizes::chunk_size(k.class)
     } else {
         0

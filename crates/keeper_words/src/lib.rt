@@ -57,30 +57,20 @@ fn has_key(word: u64, key: u16) -> bool
 pub fn slot(directory: &[u64], key: u16) -> usize
     ensures { result ≡ least (λ i. holds key (entries directory.now i)) (length directory.now) }
 {
-    let mut i = 0;
-    while i < directory.len() {
-        let word = directory[i];
-        if has_key(word, key) {
-            return i;
-        }
-        i += 1;
-    }
-    directory.len()
+    directory
+        .iter()
+        .position(|word| has_key(*word, key))
+        .unwrap_or(directory.len())
 }
 
 // The first empty place; the number of places where there is none.
 pub fn first_empty(directory: &[u64]) -> usize
     ensures { result ≡ least (λ i. is_empty (entries directory.now i)) (length directory.now) }
 {
-    let mut i = 0;
-    while i < directory.len() {
-        let word = directory[i];
-        if is_empty(word) {
-            return i;
-        }
-        i += 1;
-    }
-    directory.len()
+    directory
+        .iter()
+        .position(|word| is_empty(*word))
+        .unwrap_or(directory.len())
 }
 
 // ---- when a directory is sound
@@ -130,28 +120,17 @@ fn new_among(directory: &[u64], n: usize, word: u64) -> bool
     requires { n ≤ length directory.now }
     ensures { result ≡ all_below (λ j. differ (entry_of word) (entries directory.now j)) n }
 {
-    let mut j = 0;
-    while j < n {
-        let other = directory[j];
-        if !differ_in(word, other) {
-            return false;
-        }
-        j += 1;
-    }
-    true
+    directory[..n].iter().all(|other| differ_in(word, *other))
 }
 
 // Keys and offsets differ in all places with a record.
 pub fn all_differ(directory: &[u64]) -> bool
     ensures { result ≡ all_below (λ i. all_below (λ j. differ (entries directory.now i) (entries directory.now j)) i) (length directory.now) }
 {
-    let mut i = 0;
-    while i < directory.len() {
-        let word = directory[i];
-        if !new_among(directory, i, word) {
+    for (i, word) in directory.iter().enumerate() {
+        if !new_among(directory, i, *word) {
             return false;
         }
-        i += 1;
     }
     true
 }

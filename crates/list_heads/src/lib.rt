@@ -15,14 +15,14 @@ fn first_run(pool: &[u8]) -> PageNumber
     ensures { result.0 ≡ (header_at pool.now).first_run.0 }
 {
     let h = record_header::get_header(pool);
-    PageNumber(h.first_run.0)
+    h.first_run
 }
 
 fn first_page(pool: &[u8], w: u8, c: u8) -> PageNumber
     ensures { result.0 ≡ (class_at w pool.now c).first.0 }
 {
     let r = record_class::get_class(pool, w, c);
-    PageNumber(r.first.0)
+    r.first
 }
 
 // The list's first page.
@@ -60,7 +60,7 @@ fn change_first(pool: &mut [u8], k: usize, p: PageNumber)
 fn put_first_page(pool: &mut [u8], w: u8, c: u8, p: PageNumber)
     ensures { pool.new ≡ with_first_page w pool.old c p.0 }
 {
-    change_first(pool, records::place(1, w, c as u16), PageNumber(p.0));
+    change_first(pool, records::place(1, w, c as u16), p);
 }
 
 // Page p becomes the list's first page.

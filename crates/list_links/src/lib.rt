@@ -10,27 +10,21 @@ use records::{Links, NO_PAGE, PageNumber};
 pub fn between_pages(l: Links, prev: PageNumber, next: PageNumber) -> Links
     ensures { result ≡ between l prev.0 next.0 }
 {
-    Links {
-        kind: l.kind,
-        class: l.class,
-        run: l.run,
-        next: PageNumber(next.0),
-        prev: PageNumber(prev.0),
-    }
+    Links { next, prev, ..l }
 }
 
 fn link_next(pool: &mut [u8], w: u8, p: PageNumber, v: PageNumber)
     ensures { pool.new ≡ linked_next w pool.old p.0 v.0 }
 {
     let l = record_page::get_links(pool, w, p);
-    record_page::put_links(pool, w, p, between_pages(l, PageNumber(l.prev.0), v));
+    record_page::put_links(pool, w, p, between_pages(l, l.prev, v));
 }
 
 fn link_prev(pool: &mut [u8], w: u8, p: PageNumber, v: PageNumber)
     ensures { pool.new ≡ linked_prev w pool.old p.0 v.0 }
 {
     let l = record_page::get_links(pool, w, p);
-    record_page::put_links(pool, w, p, between_pages(l, v, PageNumber(l.next.0)));
+    record_page::put_links(pool, w, p, between_pages(l, v, l.next));
 }
 
 // Makes v the page after p, and the list's first where p is no page.

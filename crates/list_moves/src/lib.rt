@@ -10,8 +10,8 @@ use records::{Links, NO_PAGE, PageNumber};
 pub fn unlink(pool: &mut [u8], w: u8, list: u8, l: Links)
     ensures { pool.new ≡ unlinked w pool.old list l }
 {
-    list_links::put_next(pool, w, list, PageNumber(l.prev.0), PageNumber(l.next.0));
-    list_links::put_prev(pool, w, PageNumber(l.next.0), PageNumber(l.prev.0));
+    list_links::put_next(pool, w, list, l.prev, l.next);
+    list_links::put_prev(pool, w, l.next, l.prev);
 }
 
 fn push_before(pool: &mut [u8], w: u8, list: u8, p: PageNumber, l: Links, h: PageNumber)
@@ -39,12 +39,7 @@ pub fn push_front(pool: &mut [u8], w: u8, list: u8, p: PageNumber, l: Links)
 pub fn replace(pool: &mut [u8], w: u8, list: u8, old: Links, p: PageNumber, l: Links)
     ensures { pool.new ≡ replaced w pool.old list old p.0 l }
 {
-    record_page::put_links(
-        pool,
-        w,
-        p,
-        list_links::between_pages(l, PageNumber(old.prev.0), PageNumber(old.next.0)),
-    );
-    list_links::put_next(pool, w, list, PageNumber(old.prev.0), p);
-    list_links::put_prev(pool, w, PageNumber(old.next.0), p);
+    record_page::put_links(pool, w, p, list_links::between_pages(l, old.prev, old.next));
+    list_links::put_next(pool, w, list, old.prev, p);
+    list_links::put_prev(pool, w, old.next, p);
 }

@@ -30,22 +30,21 @@ pub struct RunAt {
 pub enum Found {
     Chunk(ChunkAt),
     Run(RunAt),
-    Refused(Refusal),
 }
 
 // The block that begins at the offset, or the number by which a free is refused. Whether a chunk is taken its mark has still to tell.
-pub fn locate(pool: &[u8], w: u8, pages: u16, at: Offset) -> Found
+pub fn locate(pool: &[u8], w: u8, pages: u16, at: Offset) -> Result<Found, Refusal>
     requires { Whole w pool.now pages }
     ensures { result ≡ located w pool.now pages at.0 }
 {
     let x = at.0;
     if pages as u32 <= x / PAGE {
-        return Found::Refused(Refusal::Outside);
+        return Err(Refusal::Outside);
     }
     in_page(pool, w, PageNumber((x / PAGE % 65536) as u16), x % PAGE)
 }
 
-fn in_page(pool: &[u8], w: u8, p: PageNumber, within: u32) -> Found
+fn in_page(pool: &[u8], w: u8, p: PageNumber, within: u32) -> Result<Found, Refusal>
     requires { links_place w p.0 < length pool.now / 8 }
     ensures { result ≡ page_found w pool.now p.0 within }
 {
@@ -54,11 +53,11 @@ fn in_page(pool: &[u8], w: u8, p: PageNumber, within: u32) -> Found
 }
 
 // By the page's kind.
-fn in_kind(p: PageNumber, within: u32, l: Links) -> Found
+fn in_kind(p: PageNumber, within: u32, l: Links) -> Result<Found, Refusal>
     ensures { result ≡ kind_found p.0 within l }
 {
     if l.kind <= FIRST_FREE {
-        return Found::Refused(Refusal::NotTaken);
+        return Err(Refusal::NotTaken);
     }
     if l.kind == CLASS_PAGE {
         return in_class(l.class, p, within);
@@ -66,35 +65,35 @@ fn in_kind(p: PageNumber, within: u32, l: Links) -> Found
     if l.kind == FIRST_TAKEN {
         return in_run(p, l.run, within);
     }
-    Found::Refused(Refusal::NotAStart)
+    Err(Refusal::NotAStart)
 }
 
 // In the first page of a taken run.
-fn in_run(p: PageNumber, len: u16, within: u32) -> Found
+fn in_run(p: PageNumber, len: u16, within: u32) -> Result<Found, Refusal>
     ensures { result ≡ run_found p.0 len within }
 {
     if within == 0 {
-        Found::Run(RunAt {
-            page: PageNumber(p.0),
+        Ok(Found::Run(RunAt {
+            page: p,
             pages: len,
-        })
+        }))
     } else {
-        Found::Refused(Refusal::NotAStart)
+        Err(Refusal::NotAStart)
     }
 }
 
 // In a class page. Tried in this order: the class, the chunk's boundary, the map's own chunks.
-fn in_class(c: u8, p: PageNumber, within: u32) -> Found
+fn in_class(c: u8, p: PageNumber, within: u32) -> Result<Found, Refusal>
     ensures { result ≡ class_found c p.0 within }
 {
     if c <= 8 {
         chunk_within(c, p, within)
     } else {
-        Found::Refused(Refusal::NotAStart)
+        Err(Refusal::NotAStart)
     }
 }
 
-fn chunk_within(c: u8, p: PageNumber, within: u32) -> Found
+fn chunk_within(c: u8, p: PageNumber, within: u32) -> Result<Found, Refusal>
     requires { c ≤ 8 }
     ensures { result ≡ offset_found c p.0 within }
 {
@@ -103,18 +102,18 @@ fn chunk_within(c: u8, p: PageNumber, within: u32) -> Found
 }
 
 // The chunk of so many bytes that begins `within` bytes into the page, where one does.
-fn chunk_sized(c: u8, p: PageNumber, within: u32, size: u32) -> Found
+fn chunk_sized(c: u8, p: PageNumber, within: u32, size: u32) -> Result<Found, Refusal>
     requires { (c ≤ 8) × (1 ≤ size) }
     ensures { result ≡ sized_found c p.0 within size }
 {
     if within % size == 0 {
         chunk_start(c, p, (within / size % 65536) as u16)
     } else {
-        Found::Refused(Refusal::NotAStart)
+        Err(Refusal::NotAStart)
     }
 }
 
-fn chunk_start(c: u8, p: PageNumber, i: u16) -> Found
+fn chunk_start(c: u8, p: PageNumber, i: u16) -> Result<Found, Refusal>
     requires { c ≤ 8 }
     ensures { result ≡ start_found c p.0 i }
 {
@@ -123,16 +122,16 @@ fn chunk_start(c: u8, p: PageNumber, i: u16) -> Found
 }
 
 // Chunk i, where it is past the map's own chunks.
-fn chunk_past(c: u8, p: PageNumber, i: u16, own: u16) -> Found
+fn chunk_past(c: u8, p: PageNumber, i: u16, own: u16) -> Result<Found, Refusal>
     ensures { result ≡ past_found c p.0 i own }
 {
     if i < own {
-        Found::Refused(Refusal::NotAStart)
+        Err(Refusal::NotAStart)
     } else {
-        Found::Chunk(ChunkAt {
-            page: PageNumber(p.0),
+        Ok(Found::Chunk(ChunkAt {
+            page: p,
             class: c,
             index: i as usize,
-        })
+        }))
     }
 }

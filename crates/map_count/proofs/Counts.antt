@@ -73,11 +73,12 @@ marks-join s k a d =
 pub read_ones : (s : List ℕ) (k v : ℕ) → Bytes s → k < length s / 8 → v ≡ word s k → (Count.ones v ≡ count (mark s (8 * k)) 64) × (Count.ones v ≤ 64)
 read_ones s k v B h e = let z : Count.ones v ≡ count (mark s (8 * k)) 64 = rw e (word_ones s k B h) in (z, rw z (count_le _ 64))
 
-pub read_twice : (s : List ℕ) (k a x y : ℕ) → x ≡ count (mark s (8 * k)) (64 * a) → y ≡ count (mark s (8 * (k + a))) (64 * a)
-    → (x + y ≡ count (mark s (8 * k)) (64 * a + 64 * a)) × (x + y ≤ 64 * a + 64 * a)
-read_twice s k a x y e d =
-    let z : x + y ≡ count (mark s (8 * k)) (64 * a + 64 * a) = rw (e, d) (sym (marks-join s k a (64 * a))) in
-    (z, rw z (count_le _ (64 * a + 64 * a)))
+pub read_more : (s : List ℕ) (k j v n : ℕ) → Bytes s → k + j < length s / 8 → v ≡ word s (k + j) → n ≡ count (mark s (8 * k)) (64 * j)
+    → (n + Count.ones v ≡ count (mark s (8 * k)) (64 * (j + 1))) × (n + Count.ones v ≤ 64 * (j + 1))
+read_more s k j v n B h e d =
+    let a : 64 * (j + 1) ≡ 64 * j + 64 = omega arith in
+    let z : n + Count.ones v ≡ count (mark s (8 * k)) (64 * (j + 1)) = rw (e, word_ones s (k + j) B h, d, a) (sym (marks-join s k j 64)) in
+    (z, rw z (count_le _ (64 * (j + 1))))
 
 module _ (m : ℕ → Bool) (c r : ℕ) where
   of_bits : (n : ℕ) → map_bits c ≡ n → n ≤ 512 → (r ≡ count m n) × (r ≤ n) → (r ≡ count m (map_bits c)) × (r ≤ 512)

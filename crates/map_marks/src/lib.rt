@@ -13,16 +13,14 @@ pub fn bit_at(b: u8, i: u16) -> bool
     (b >> (7 - i % 8)) % 2 == 1
 }
 
-fn set_bit(b: u8, i: u16) -> u8
-    ensures { result ≡ with_bit b (i % 8) true }
+fn bit_put(b: u8, i: u16, set: bool) -> u8
+    ensures { result ≡ with_bit b (i % 8) set }
 {
-    b | (128 >> (i % 8))
-}
-
-fn clear_bit(b: u8, i: u16) -> u8
-    ensures { result ≡ with_bit b (i % 8) false }
-{
-    b & !(128 >> (i % 8))
+    if set {
+        b | (128 >> (i % 8))
+    } else {
+        b & !(128 >> (i % 8))
+    }
 }
 
 // The place of the byte that holds mark i.
@@ -39,22 +37,13 @@ pub fn get_mark(pool: &[u8], base: u32, i: u16) -> bool
     bit_at(cells::get_byte(pool, byte_of(base, i)), i)
 }
 
-// Marks chunk i taken; a mark outside the pool is not written.
-pub fn set_mark(pool: &mut [u8], base: u32, i: u16)
-    ensures { pool.new ≡ with_mark pool.old base i true }
+// Marks chunk i taken or free; a mark outside the pool is not written.
+pub fn put_mark(pool: &mut [u8], base: u32, i: u16, taken: bool)
+    ensures { pool.new ≡ with_mark pool.old base i taken }
 {
     let at = byte_of(base, i);
     let b = cells::get_byte(pool, at);
-    cells::put_byte(pool, at, set_bit(b, i));
-}
-
-// Marks chunk i free; a mark outside the pool is not written.
-pub fn clear_mark(pool: &mut [u8], base: u32, i: u16)
-    ensures { pool.new ≡ with_mark pool.old base i false }
-{
-    let at = byte_of(base, i);
-    let b = cells::get_byte(pool, at);
-    cells::put_byte(pool, at, clear_bit(b, i));
+    cells::put_byte(pool, at, bit_put(b, i, taken));
 }
 
 // ---- by words, where the caller knows that the word is whole: word k holds the mark, which is its mark i % 64
@@ -72,16 +61,14 @@ fn is_in(v: u64, i: u16) -> bool
     v & mark_word(i) != 0
 }
 
-fn set_in(v: u64, i: u16) -> u64
-    ensures { result ≡ with_word_bit v (i % 64) true }
+fn put_in(v: u64, i: u16, set: bool) -> u64
+    ensures { result ≡ with_word_bit v (i % 64) set }
 {
-    v | mark_word(i)
-}
-
-fn clear_in(v: u64, i: u16) -> u64
-    ensures { result ≡ with_word_bit v (i % 64) false }
-{
-    v & !mark_word(i)
+    if set {
+        v | mark_word(i)
+    } else {
+        v & !mark_word(i)
+    }
 }
 
 pub fn get_mark_in(pool: &[u8], k: usize, i: u16) -> bool
@@ -91,18 +78,10 @@ pub fn get_mark_in(pool: &[u8], k: usize, i: u16) -> bool
     is_in(cells::get_word_in(pool, k), i)
 }
 
-pub fn set_mark_in(pool: &mut [u8], k: usize, i: u16)
+pub fn put_mark_in(pool: &mut [u8], k: usize, i: u16, taken: bool)
     requires { k < length pool.old / 8 }
-    ensures { pool.new ≡ with_mark pool.old (8 * k) (i % 64) true }
+    ensures { pool.new ≡ with_mark pool.old (8 * k) (i % 64) taken }
 {
     let v = cells::get_word_in(pool, k);
-    cells::put_word_in(pool, k, set_in(v, i));
-}
-
-pub fn clear_mark_in(pool: &mut [u8], k: usize, i: u16)
-    requires { k < length pool.old / 8 }
-    ensures { pool.new ≡ with_mark pool.old (8 * k) (i % 64) false }
-{
-    let v = cells::get_word_in(pool, k);
-    cells::put_word_in(pool, k, clear_in(v, i));
+    cells::put_word_in(pool, k, put_in(v, i, taken));
 }

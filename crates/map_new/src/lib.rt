@@ -19,11 +19,7 @@ pub fn write_new_map(map: &mut [u8], k: u16)
     ensures { map.new ≡ new_map (length map.old) k }
 {
     words::put64(map, 0, top_word(k));
-    let mut j = 8;
-    while j < map.len() {
-        map[j] = 0;
-        j += 1;
-    }
+    map[8..].fill(0);
 }
 
 // Lends the new page's map on to the function that writes it; one that does not lie inside the pool is not written.

@@ -59,12 +59,10 @@ fn all_words(pool: &[u8], k: usize, m: usize, first: u64, rest: u64, at: usize, 
     requires { (k < 67108864) × (m ≤ 8) }
     ensures { result ≡ words_are pool.now k m first rest at odd }
 {
-    let mut j = 0;
-    while j < m {
+    for j in 0..m {
         if !word_is(pool, k + j, expected_word(first, rest, at, odd, j)) {
             return false;
         }
-        j += 1;
     }
     true
 }

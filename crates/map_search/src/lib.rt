@@ -32,13 +32,11 @@ fn by_words(pool: &[u8], k: usize, m: usize) -> u16
     requires { (k + m ≤ length pool.now / 8) × (m ≤ 8) }
     ensures { result ≡ lowest_clear pool.now (8 * k) (64 * m) }
 {
-    let mut j: usize = 0;
-    while j < m {
+    for j in 0..m {
         let z = u64::leading_zeros(!cells::get_word_in(pool, k + j));
         if z < 64 {
             return (64 * j + z as usize) as u16;
         }
-        j += 1;
     }
     64 * m as u16
 }
@@ -51,27 +49,22 @@ pub fn lowest_in(pool: &[u8], k: usize) -> u16
     u64::leading_zeros(!cells::get_word_in(pool, k)) as u16
 }
 
-// Bit by bit, where the last word of the map is cut off by the slice's end: bytes in order, bits from the top, and one hit ends both searches.
+// Bit by bit, where the last word of the map is cut off by the slice's end: bytes in order, bits from the top.
 fn by_bits(pool: &[u8], base: u32, n: u16) -> u16
     ensures { result ≡ lowest_clear pool.now base n }
 {
     let first = base as usize;
     let bytes = n / 8 + (n % 8 + 7) / 8;
-    let mut hit = n;
-    let mut j: u16 = 0;
-    'search: while j < bytes {
+    for j in 0..bytes {
         let b = cells::get_byte(pool, first + j as usize);
-        let mut i = passed(b);
-        while i < 8 {
+        for i in passed(b)..8 {
             if !map_marks::bit_at(b, i) {
-                hit = 8 * j + i;
-                break 'search;
+                let hit = 8 * j + i;
+                return hit.min(n);
             }
-            i += 1;
         }
-        j += 1;
     }
-    if hit < n { hit } else { n }
+    n
 }
 
 // How many bits of a byte a search passes at once: all of a full one.

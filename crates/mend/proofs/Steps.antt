@@ -1,9 +1,9 @@
 -- The steps of the loops, what the counters tell, and what the tests let pass.
 use mathlib.Core.Path.{◌≡◌, refl, sym, ap, ◌∙◌, subst}
-use mathlib.Core.Logic.{◌≢◌}
+use mathlib.Core.Logic.{◌≢◌, ⊎_elim}
 use mathlib.Core.Bool.{Bool, true, false}
 use mathlib.Core.List.{List}
-use Prim.Native.Nat.{ℕ, ◌+◌, ◌*◌, ◌%◌, ◌≤◌, ◌<◌}
+use Prim.Native.Nat.{ℕ, max, ◌+◌, ◌*◌, ◌%◌, ◌≤◌, ◌<◌}
 use native.Mathlib.Numerals.{add-one}
 use native.Mathlib.Omega.{arith}
 use native.Mathlib.Nat.{mul-le-mul_left}
@@ -12,6 +12,8 @@ use lib.Seq.{ext_get_or}
 use borrow.Author.Rules.{rules}
 use borrow.Author.Tests.{eq-eqb, ne_eqb}
 use Rattle.base.specs.Tests.{pick}
+use Rattle.base.proofs.Tests.{pick_le, pick_gt}
+use Rattle.base.proofs.Cases.{lt?}
 use Rattle.words.specs.Word.{Bytes, set_word}
 use Rattle.records.specs.Layout.{counts_place}
 use Rattle.records.specs.declared.ClassRecord.{ClassRecord}
@@ -42,6 +44,9 @@ use Rattle.mending.specs.Checked.{mend_outcome, mended}
 use Rattle.mending.specs.Mirror.{class_anew, page_anew, counts_written, links_written, peaks_written, written}
 use Rattle.mending.proofs.Painted.{copy_written}
 use Rattle.mend.specs.Mirror.{counts_below, links_below, peaks_below}
+
+max-larger : (a b : ℕ) → max a b ≡ larger a b
+max-larger a b = ⊎_elim (λ (l : b < a). pick_gt b a a b l (omega arith)) (λ (l : a ≤ b). pick_le b a a b l (omega arith)) (lt? b a)
 
 -- ---- what the counters tell
 
@@ -90,11 +95,11 @@ module _ (w : ℕ) (s : List ℕ) (n : ℕ) (x : List ℕ) where
   peaks-none = refl
 
   pub peaks_one : (t : List ℕ) → Scanned w s n t → (u v : List ℕ) (c a b y : ℕ) → u ≡ peaks_below w s n x c → c < 9 → a ≡ peak_at w s c → b ≡ get_or t c 0 % 4294967296 →
-      y ≡ larger a b → v ≡ with_peak w u c y → v ≡ peaks_below w s n x (c + 1)
+      y ≡ max a b → v ≡ with_peak w u c y → v ≡ peaks_below w s n x (c + 1)
   unfolding peaks_below write_at with_peak
   peaks_one t S u v c a b y e l f g h z =
       let d : b ≡ used_of (read_fields (fields_of w s) n) c = g ∙ sym (used-is (fields_of w s) n t S.most S.counted c l) in
-      rw (add-one c) (z ∙ rw (e, h, f, d))
+      rw (add-one c) (z ∙ rw (e, h, max-larger a b, f, d))
 
   pub peaks-all : (u : List ℕ) (c : ℕ) → u ≡ peaks_below w s n x c → c ≤ 9 → 9 ≤ c → u ≡ peaks_below w s n x 9
   peaks-all u c e a b = let d : c ≡ 9 = omega arith in rw d at e

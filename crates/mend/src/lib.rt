@@ -5,7 +5,6 @@
 ghost use Rattle.std.specs.Prelude.{◌≡◌, true, ◌≤◌, ◌<◌, length};
 ghost use Rattle.answers.specs.Outcome.{of_format};
 ghost use Rattle.image.specs.Image.{header_of};
-ghost use Rattle.drawing.specs.Draw.{larger};
 ghost use Rattle.rules.specs.Fields.{page_at};
 ghost use Rattle.rules.specs.Read.{is_head};
 ghost use Rattle.rules.specs.Rules.{shape, free_in};
@@ -15,7 +14,7 @@ ghost use Rattle.mending.specs.Checked.{mend_outcome, mended};
 ghost use Rattle.mending.specs.Mirror.{first_from, class_anew, header_written, counts_written, links_written, peaks_written, written};
 ghost use Rattle.mend.specs.Mirror.{peaks_below};
 
-use answers::{Formatted, Refusal};
+use answers::Refusal;
 use records::{ClassRecord, Header, PageNumber};
 use validate_pages::FREE;
 
@@ -23,17 +22,17 @@ fn header_anew(damaged: &[u8], w: u8, n: usize, t: &[u64; 11]) -> Header
     requires { Scanned w damaged.now n t.now }
     ensures { result ≡ header_of w n (free_in (page_at (fields_of w damaged.now) n) n) (first_from (is_head (fields_of w damaged.now) n) 0 n) }
 {
-    let edition = branchless::minus(w as usize, 1) as u8;
+    let edition = (w as usize).saturating_sub(1) as u8;
     let pages = n as u16;
     let free = validate_totals::low(t, FREE) as u16;
     let first = mend_order::first_from(damaged, w, n, 0, 0, n);
     Header {
-        edition: edition,
+        edition,
         min_shift: 3,
         page_shift: 12,
-        pages: pages,
+        pages,
         free_pages: free,
-        first_run: PageNumber(first.0),
+        first_run: first,
     }
 }
 
@@ -54,11 +53,10 @@ fn class_anew(damaged: &[u8], w: u8, n: usize, t: &[u64; 11], c: u8) -> ClassRec
     let total = (validate_totals::middle(t, c as usize) * classes::total_count(c) as u64) as u32;
     let first = mend_order::first_from(damaged, w, n, c + 1, 0, n);
     ClassRecord {
-        first: PageNumber(first.0),
-        used: used,
-        total: total,
-        reqs: r.reqs,
-        fails: r.fails,
+        first,
+        used,
+        total,
+        ..r
     }
 }
 
@@ -66,15 +64,13 @@ fn write_counts(target: &mut [u8], damaged: &[u8], w: u8, n: usize, t: &[u64; 11
     requires { Scanned w damaged.now n t.now }
     ensures { target.new ≡ counts_written w damaged.now n target.old }
 {
-    let mut c: u8 = 0;
-    while c < 9 {
+    for c in 0..9 {
         let r = class_anew(damaged, w, n, t, c);
         cells::put_word(
             target,
             records::place(1, w, c as u16),
             record_class::pack_counts(r),
         );
-        c += 1;
     }
 }
 
@@ -82,31 +78,21 @@ fn write_links(target: &mut [u8], damaged: &[u8], w: u8, n: usize)
     requires { (n ≡ pages_in w damaged.now) × (n ≤ 4096) × (shape (fields_of w damaged.now) n ≡ true) }
     ensures { target.new ≡ links_written w damaged.now n target.old }
 {
-    let mut p = 0;
-    while p < n {
-        let at = p as u16;
-        let l = mend_order::page_anew(damaged, w, n, PageNumber(at));
-        record_page::put_links(target, w, PageNumber(at), l);
-        p += 1;
+    for p in 0..n {
+        let at = PageNumber(p as u16);
+        let l = mend_order::page_anew(damaged, w, n, at);
+        record_page::put_links(target, w, at, l);
     }
-}
-
-fn larger_of(a: u32, b: u32) -> u32
-    ensures { result ≡ larger a b }
-{
-    if a <= b { b } else { a }
 }
 
 fn all_peaks(target: &mut [u8], damaged: &[u8], w: u8, n: usize, t: &[u64; 11])
     requires { Scanned w damaged.now n t.now }
     ensures { target.new ≡ peaks_below w damaged.now n target.old 9 }
 {
-    let mut c: u8 = 0;
-    while c < 9 {
+    for c in 0..9 {
         let peak = record_class::get_peak(damaged, w, c);
         let used = validate_totals::low(t, c as usize) as u32;
-        record_class::put_peak(target, w, c, larger_of(peak, used));
-        c += 1;
+        record_class::put_peak(target, w, c, peak.max(used));
     }
 }
 
@@ -139,20 +125,20 @@ fn write(target: &mut [u8], damaged: &[u8], w: u8, n: usize, t: &[u64; 11])
 }
 
 // Writes a mended copy of the damaged pool into the target: the page count, or the refusal.
-pub fn mend(damaged: &[u8], target: &mut [u8], w: u8) -> Formatted
+pub fn mend(damaged: &[u8], target: &mut [u8], w: u8) -> Result<u16, Refusal>
     requires { 2 ≤ w }
     ensures answer { of_format result ≡ mend_outcome w damaged.now target.old }
     ensures slice { target.new ≡ mended w damaged.now target.old }
 {
     if damaged.len() != target.len() {
-        return Formatted::Refused(Refusal::WrongLength);
+        return Err(Refusal::WrongLength);
     }
     let n = validate_length::page_count(w, damaged.len());
     let mut t = [0u64; 11];
     if !check_mended::shaped(damaged, w, n, &mut t) {
-        return Formatted::Refused(Refusal::BeyondMending);
+        return Err(Refusal::BeyondMending);
     }
     write(target, damaged, w, n, &t);
     let pages = n as u16;
-    Formatted::Pages(pages)
+    Ok(pages)
 }

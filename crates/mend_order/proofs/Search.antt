@@ -13,12 +13,9 @@ module _ (q : ℕ → Bool) (x a : ℕ) (u : Bool) (e : u ≡ q a) where
   found_first zero h t i = absurd (omega arith)
   found_first (suc k) h t i = sym (i ∙ pick_yes _ _ _ (sym e ∙ t))
 
-  pub more_first : (k : ℕ) → 0 < k → u ≡ false → x ≡ first_from q a k → x ≡ first_from q (a + 1) (k - 1)
+  pub more_first : (k j : ℕ) → k ≡ suc j → u ≡ false → x ≡ first_from q a k → x ≡ first_from q (a + 1) j
   unfolding first_from
-  more_first zero h t i = absurd (omega arith)
-  more_first (suc k) h t i =
-      let z : k ≡ suc k - 1 = omega arith in
-      i ∙ pick_no _ _ _ (sym e ∙ t) ∙ ap (first_from q (a + 1)) z
+  more_first k j h t i = rw h at i ∙ pick_no _ _ _ (sym e ∙ t)
 
 pub none_first : (q : ℕ → Bool) (x a k : ℕ) → k ≤ 0 → x ≡ first_from q a k → no_page ≡ x
 unfolding first_from

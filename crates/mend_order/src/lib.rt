@@ -30,14 +30,10 @@ pub fn first_from(pool: &[u8], w: u8, n: usize, list: u8, a: u16, k: usize) -> P
     requires { (n ≡ pages_in w pool.now) × (n ≤ no_page) × (shape (fields_of w pool.now) n ≡ true) × (list ≤ 9) × (a + k ≤ no_page) }
     ensures { result.0 ≡ first_from (belongs (fields_of w pool.now) n list) a k }
 {
-    let mut at = a;
-    let mut left = k;
-    while 0 < left {
+    for at in a..a + k as u16 {
         if on_list(pool, w, n, list, PageNumber(at)) {
             return PageNumber(at);
         }
-        at += 1;
-        left -= 1;
     }
     PageNumber(NO_PAGE)
 }
@@ -47,9 +43,7 @@ fn last_below(pool: &[u8], w: u8, n: usize, list: u8, p: u16) -> PageNumber
     requires { (n ≡ pages_in w pool.now) × (n ≤ no_page) × (shape (fields_of w pool.now) n ≡ true) × (list ≤ 9) }
     ensures { result.0 ≡ last_below (belongs (fields_of w pool.now) n list) p }
 {
-    let mut at = p;
-    while 0 < at {
-        at -= 1;
+    for at in (0..p).rev() {
         if on_list(pool, w, n, list, PageNumber(at)) {
             return PageNumber(at);
         }
@@ -137,11 +131,5 @@ pub fn page_anew(pool: &[u8], w: u8, n: usize, p: PageNumber) -> Links
     let l = validate_fields::links_of(pool, w, p);
     let next = next_anew(pool, w, n, p, l.class);
     let prev = prev_anew(pool, w, n, p, l.class);
-    Links {
-        kind: l.kind,
-        class: l.class,
-        run: l.run,
-        next: PageNumber(next.0),
-        prev: PageNumber(prev.0),
-    }
+    Links { next, prev, ..l }
 }

@@ -8,6 +8,12 @@ use native.Mathlib.Numerals.{add-one}
 use native.Mathlib.Omega.{arith}
 use lib.ListN.{length, get_or, set, take, drop}
 use lib.Seq.{drop-cons, take_all, take-suc-set, drop-set-lt, append_snoc, set_split}
+use Rattle.std.proofs.Common.{cond, not, nat_lt, Some, None}
+use Rattle.std.proofs.lemmas.Grind.{common_steps}
+use Rattle.std.proofs.lemmas.List.Recursion.{is_position_or_len}
+use Rattle.std.proofs.lemmas.List.Sums.{prefix_len-le-length}
+use Rattle.std.specs.List.{position, position_or_len}
+use Rattle.std.specs.Option.{unwrap_or}
 use Rattle.base.specs.Tests.{pick}
 use Rattle.plain.specs.Arrays.{remade, place_of, pushed}
 
@@ -37,6 +43,21 @@ module _ {A : Type 0} where
 
   pub place-start : (q : A → Bool) (t : List A) → 0 + place_of q (drop 0 t) ≡ place_of q t
   place-start q t = zero-add _
+
+  -- std's word for the same place, which `position` answers; n is the table's length
+  place-len : (q : A → Bool) (t : List A) → place_of q t ≡ position_or_len q t
+  unfolding place_of pick
+  place-len q t = is_position_or_len (place_of q) q refl (λ x xs. step (q x) (place_of q xs)) t
+    where
+      step : (b : Bool) (m : ℕ) → pick b 0 (suc m) ≡ cond b 0 (1 + m)
+      step true m = refl
+      step false m = omega arith
+
+  pub place-position : (q : A → Bool) (t : List A) (n : ℕ) → length t ≡ n → unwrap_or (position q t) n ≡ place_of q t
+  place-position q t n e = go (position_or_len q t) (place-len q t) (prefix_len-le-length (λ x. not (q x)) t)
+    where
+      go : (m : ℕ) → place_of q t ≡ m → m ≤ length t → unwrap_or (cond (nat_lt m (length t)) (Some m) None) n ≡ place_of q t
+      go m f l = grind (arith, common_steps)
 
   -- ---- every entry passed over
 

@@ -1,1 +1,1 @@
-pub mod Fitting  -- a run begins within the pages; bounds
+pub mod Fitting  -- bounds of the lowest free chunk

@@ -1,6 +1,5 @@
 -- The search for the lowest free chunk.
-use mathlib.Core.Path.{◌≡◌, sym, ap, ◌∙◌}
-use mathlib.Core.Logic.{◌⊎◌, inl, inr}
+use mathlib.Core.Path.{◌≡◌, sym, ◌∙◌}
 use mathlib.Core.Bool.{Bool, true, false, not}
 use mathlib.Core.List.{List}
 use Prim.Native.Nat.{ℕ, ◌+◌, ◌*◌, ◌≤◌, ◌<◌}
@@ -10,7 +9,6 @@ use lib.ListN.{length, get_or}
 use borrow.Author.Tests.{lt-ltb}
 use Rattle.base.specs.Tests.{pick}
 use Rattle.base.specs.Search.{any}
-use Rattle.base.proofs.Cases.{eq?}
 use Rattle.base.proofs.Search.{least-is}
 use Rattle.model.specs.Classes.{chunks, lowest, has_clear}
 use Rattle.plain.specs.Plain.{mark_of}
@@ -31,17 +29,7 @@ module _ (b : List ℕ) (p c n i : ℕ) (inside : i < n) (is : n ≡ chunks c) w
 pub record Passed (m : ℕ → Bool) (i : ℕ) : Type 0 where
   pub used : (j : ℕ) → j < i → m j ≡ true
 
-pub passed_none : (m : ℕ → Bool) → Passed m 0
-passed_none m = record { used = λ j h. absurd (omega arith) }
-
 module _ (m : ℕ → Bool) (i : ℕ) (before : Passed m i) where
-  pub passed_next : (t : Bool) → t ≡ m i → t ≡ true → Passed m (i + 1)
-  passed_next t e f = record { used = λ j h. go j h (eq? j i) }
-    where
-      go : (j : ℕ) → j < i + 1 → (j ≡ i) ⊎ (j ≡ i → ⊥) → m j ≡ true
-      go j h (inl d) = ap m d ∙ sym e ∙ f
-      go j h (inr d) = before.used j (omega arith)
-
   found_at : (c : ℕ) → i ≤ chunks c → (i < chunks c → m i ≡ false) → i ≡ lowest c m
   unfolding lowest
   found_at c l here = sym (least-is (λ j. not (m j)) (chunks c) i (record { at_most = l; before = λ j h. rw (before.used j h); passes = λ h. rw (here h) }))

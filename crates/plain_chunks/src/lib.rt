@@ -1,8 +1,7 @@
 // The list of pages with a free chunk, by value, and the bytes of the chunks, lent.
 #![tactic(auto)]
 
-ghost use Rattle.std.specs.Prelude.{◌≡◌, ◌<◌, ◌≤◌, eqb};
-ghost use Rattle.base.specs.Tests.{pick};
+ghost use Rattle.std.specs.Prelude.{◌≡◌, ◌<◌, ◌≤◌};
 ghost use Rattle.model.specs.Classes.{own, chunks, lowest, has_clear};
 ghost use Rattle.plain.specs.Plain.{mark_of};
 ghost use Rattle.plain.specs.Chunks.{new_byte, new_bytes, with_byte, listed_first, unlisted};
@@ -14,36 +13,25 @@ pub fn list_first(mut table: [u8; 12], p: u8) -> [u8; 12]
     ensures { result ≡ listed_first p table }
 {
     let mut carry = p;
-    let mut i: usize = 0;
-    while i < 12 {
-        let x = table[i];
-        table[i] = carry;
+    for place in &mut table {
+        let x = *place;
+        *place = carry;
         if 12 <= x {
-            return table;
+            break;
         }
         carry = x;
-        i += 1;
     }
     table
-}
-
-fn without(x: u8, p: u8) -> u8
-    ensures { result ≡ pick (eqb x p) 255 x }
-{
-    if x == p {
-        return 255;
-    }
-    x
 }
 
 // Page p leaves an empty place.
 pub fn unlist(mut table: [u8; 12], p: u8) -> [u8; 12]
     ensures { result ≡ unlisted p table }
 {
-    let mut i: usize = 0;
-    while i < 12 {
-        table[i] = without(table[i], p);
-        i += 1;
+    for x in &mut table {
+        if *x == p {
+            *x = 255;
+        }
     }
     table
 }
@@ -51,6 +39,7 @@ pub fn unlist(mut table: [u8; 12], p: u8) -> [u8; 12]
 // ---- the bytes
 
 // Chunk i of page p is marked with v.
+#[tactic(auto, unfolding(plain::specs::Chunks::with_byte))]
 pub fn set_mark(bytes: &mut [u8], p: usize, i: usize, v: u8)
     requires { (p < 12) × (i ≤ 512) }
     ensures { bytes.new ≡ with_byte bytes.old p i v }
@@ -62,17 +51,18 @@ pub fn set_mark(bytes: &mut [u8], p: usize, i: usize, v: u8)
 }
 
 // The byte at x, now y, after page p became a new page of class c, whose map takes `first` chunks.
+#[tactic(auto, unfolding(plain::specs::Chunks::new_byte, base::specs::Tests::pick))]
 fn new_byte(p: usize, c: u8, first: usize, x: usize, y: u8) -> u8
     requires { first ≡ own c }
     ensures { result ≡ new_byte p c x y }
 {
-    if x / 512 == p {
-        if x % 512 <= first {
-            return 1;
-        }
-        return 0;
+    if x / 512 != p {
+        y
+    } else if x % 512 <= first {
+        1
+    } else {
+        0
     }
-    y
 }
 
 // Page p becomes a new page of class c.
@@ -80,10 +70,8 @@ pub fn new_page(bytes: &mut [u8], p: usize, c: u8, first: usize)
     requires { first ≡ own c }
     ensures { bytes.new ≡ new_bytes bytes.old p c }
 {
-    let mut x: usize = 0;
-    while x < bytes.len() {
-        bytes[x] = new_byte(p, c, first, x, bytes[x]);
-        x += 1;
+    for (x, byte) in bytes.iter_mut().enumerate() {
+        *byte = new_byte(p, c, first, x, *byte);
     }
 }
 
@@ -93,10 +81,7 @@ pub fn is_marked(bytes: &[u8], p: usize, c: u8, n: usize, i: usize) -> bool
     ensures { result ≡ mark_of bytes.now p c i }
 {
     let at = 512 * p + i;
-    if at < bytes.len() {
-        return bytes[at] != 0;
-    }
-    false
+    at < bytes.len() && bytes[at] != 0
 }
 
 // The lowest free chunk of page p, of class c, which has n chunks; n where none is free.
@@ -104,12 +89,10 @@ pub fn lowest_free(bytes: &[u8], p: usize, c: u8, n: usize) -> usize
     requires { (p < 12) × (n ≡ chunks c) × (n ≤ 512) }
     ensures { result ≡ lowest c (mark_of bytes.now p c) }
 {
-    let mut i: usize = 0;
-    while i < n {
+    for i in 0..n {
         if !is_marked(bytes, p, c, n, i) {
             return i;
         }
-        i += 1;
     }
     n
 }

@@ -69,11 +69,3 @@ module _ (s : Kept) (b : List ℕ) (h : kept_sound s b ≡ true) where
 
   pub paged_sound : (p : ℕ) → p < 12 → Paged (get_or s.pages p free_entry)
   paged_sound p l = kind_paged s.pages b p (get_or s.pages p free_entry) (kind_at p l)
-
--- where a table that keeps its rules and a sound rest are asked for
-module _ (ok k r : Bool) (d : r ≡ pick ok k false) (h : r ≡ true) where
-  pub both-low : (e : Extent) → (ok ≡ true → Low e) → Low e
-  both-low e f = f (both_true ok k (sym d ∙ h)).0
-
-  pub both-kept : k ≡ true
-  both-kept = (both_true ok k (sym d ∙ h)).1

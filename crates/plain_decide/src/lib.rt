@@ -5,15 +5,13 @@
 
 ghost use Rattle.std.specs.Prelude.{◌≡◌, true, false};
 ghost use Rattle.base.specs.Tests.{pick};
-ghost use Rattle.answers.specs.Outcome.{number_of};
 ghost use Rattle.plain.specs.Fresh.{kept_fresh};
-ghost use Rattle.plain.specs.Mirror.{done_refused, kept_alloc, kept_alloc_bytes, kept_free, kept_free_bytes, answer_of};
+ghost use Rattle.plain.specs.Mirror.{kept_alloc, kept_alloc_bytes, kept_free, kept_free_bytes, answer_of};
 ghost use Rattle.plain_rules.specs.Mirror.{kept_sound};
 ghost use Rattle.plain_alloc.specs.Mirror.{Low};
 ghost use Rattle.plain_decide.specs.Mirror.{recounted_done, alloc_judged, alloc_judged_bytes, free_judged, free_judged_bytes, AllocDecides, FreeDecides, short_of};
 
 use answers::{Offset, Refusal};
-use branchless::both;
 use plain::{Answer, Counts, Done, Extent, Kept, PageEntry};
 
 // ---- answers
@@ -22,10 +20,9 @@ use plain::{Answer, Counts, Done, Extent, Kept, PageEntry};
 pub fn too_short(s: Kept) -> Answer
     ensures { result ≡ short_of s }
 {
-    let n = answers::number(Refusal::TableTooShort);
     Answer {
         after: s,
-        number: n,
+        number: u8::from(Refusal::TableTooShort),
         value: 0,
     }
 }
@@ -33,9 +30,8 @@ pub fn too_short(s: Kept) -> Answer
 pub fn answer_of(d: Done) -> Answer
     ensures { result ≡ answer_of d }
 {
-    let after = d.after;
     Answer {
-        after: after,
+        after: d.after,
         number: d.number,
         value: d.value,
     }
@@ -58,13 +54,13 @@ pub fn len_of(d: Done) -> u32
 pub fn pages_of(s: Kept) -> [PageEntry; 12]
     ensures { result ≡ s.pages }
 {
-    let pages = s.pages;
-    pages
+    s.pages
 }
 
 // ---- format
 
 // What is kept of one free run of 12 pages.
+#[tactic(auto, unfolding(plain::specs::Fresh::kept_fresh, plain::specs::Plain::free_entry, plain::specs::Plain::no_counts))]
 pub fn fresh() -> Kept
     ensures { result ≡ kept_fresh }
 {
@@ -95,9 +91,10 @@ pub fn alloc(s: Kept, ok: bool, e: Extent, chunks: &mut [u8], size: u32) -> Done
     ensures { AllocDecides s ok e chunks.old size result chunks.new }
 {
     if chunks.len() < 6144 {
-        return refuse_as(s, Refusal::TableTooShort);
+        plain_pages::refuse_as(s, Refusal::TableTooShort)
+    } else {
+        alloc_judged(s, ok, e, chunks, size)
     }
-    alloc_judged(s, ok, e, chunks, size)
 }
 
 // What is kept afterwards, with the bytes released or the refusal's number.
@@ -105,46 +102,44 @@ pub fn free(s: Kept, ok: bool, chunks: &mut [u8], at: Offset) -> Done
     ensures { FreeDecides s ok chunks.old at.0 result chunks.new }
 {
     if chunks.len() < 6144 {
-        return refuse_as(s, Refusal::TableTooShort);
+        plain_pages::refuse_as(s, Refusal::TableTooShort)
+    } else {
+        free_judged(s, ok, chunks, at.0)
     }
-    free_judged(s, ok, chunks, at.0)
-}
-
-fn refuse_as(s: Kept, why: Refusal) -> Done
-    ensures { result ≡ done_refused s (number_of why) }
-{
-    let n = answers::number(why);
-    plain_pages::refuse(s, n)
 }
 
 // ---- with a whole table of chunks
 
+#[tactic(auto, unfolding(base::specs::Tests::pick))]
 fn is_sound(s: Kept, ok: bool, chunks: &[u8]) -> bool
     ensures { result ≡ pick ok (kept_sound s chunks.now) false }
 {
-    let kept = plain_validate::is_sound(s, chunks);
-    both(ok, kept)
+    ok && plain_validate::is_sound(s, chunks)
 }
 
+#[tactic(auto, unfolding(crate::specs::Mirror::alloc_judged, crate::specs::Mirror::alloc_judged_bytes, base::specs::Tests::pick))]
 fn alloc_judged(s: Kept, ok: bool, e: Extent, chunks: &mut [u8], size: u32) -> Done
     requires { ok ≡ true → Low e }
     ensures answer { result ≡ alloc_judged s ok e chunks.old size }
     ensures slice { chunks.new ≡ alloc_judged_bytes s ok e chunks.old size }
 {
     if is_sound(s, ok, chunks) {
-        return alloc_counted(s, e, chunks, size);
+        alloc_counted(s, e, chunks, size)
+    } else {
+        plain_pages::refuse_as(s, Refusal::NotSound)
     }
-    refuse_as(s, Refusal::NotSound)
 }
 
+#[tactic(auto, unfolding(crate::specs::Mirror::free_judged, crate::specs::Mirror::free_judged_bytes, base::specs::Tests::pick))]
 fn free_judged(s: Kept, ok: bool, chunks: &mut [u8], at: u32) -> Done
     ensures answer { result ≡ free_judged s ok chunks.old at }
     ensures slice { chunks.new ≡ free_judged_bytes s ok chunks.old at }
 {
     if is_sound(s, ok, chunks) {
-        return free_counted(s, chunks, at);
+        free_counted(s, chunks, at)
+    } else {
+        plain_pages::refuse_as(s, Refusal::NotSound)
     }
-    refuse_as(s, Refusal::NotSound)
 }
 
 // ---- on a sound state
@@ -168,16 +163,12 @@ fn free_counted(s: Kept, chunks: &mut [u8], at: u32) -> Done
 }
 
 // Used, total and free pages are counted anew after every call.
+#[tactic(auto, unfolding(crate::specs::Mirror::recounted_done))]
 fn recount(r: Done, chunks: &[u8]) -> Done
     ensures { result ≡ recounted_done r chunks.now }
 {
-    let before = r.after;
-    let after = plain_counts::recount(before, chunks);
     Done {
-        after: after,
-        number: r.number,
-        value: r.value,
-        first: r.first,
-        len: r.len,
+        after: plain_counts::recount(r.after, chunks),
+        ..r
     }
 }

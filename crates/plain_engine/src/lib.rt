@@ -27,14 +27,11 @@ pub fn alloc(s: Kept, runs: &mut [Extent], chunks: &mut [u8], size: u32) -> Answ
     if runs.len() < 12 {
         return plain_decide::too_short(s);
     }
-    let k = plain_alloc::wanted(size);
-    let i = plain_lent::first_fit(runs, k);
+    let i = plain_lent::first_fit(runs, plain_alloc::wanted(size));
     let e = plain_lent::entry(runs, i);
-    let pages = plain_decide::pages_of(s);
-    let ok = plain_lent_rules::table_ok(runs, pages);
+    let ok = plain_lent_rules::table_ok(runs, plain_decide::pages_of(s));
     let d = plain_decide::alloc(s, ok, e, chunks, size);
-    let n = plain_decide::len_of(d);
-    plain_lent::carve(runs, i, n);
+    plain_lent::carve(runs, i, plain_decide::len_of(d));
     plain_decide::answer_of(d)
 }
 
@@ -45,11 +42,8 @@ pub fn free(s: Kept, runs: &mut [Extent], chunks: &mut [u8], at: Offset) -> Answ
     if runs.len() < 12 {
         return plain_decide::too_short(s);
     }
-    let pages = plain_decide::pages_of(s);
-    let ok = plain_lent_rules::table_ok(runs, pages);
+    let ok = plain_lent_rules::table_ok(runs, plain_decide::pages_of(s));
     let d = plain_decide::free(s, ok, chunks, at);
-    let p = plain_decide::first_of(d);
-    let k = plain_decide::len_of(d);
-    plain_lent::release(runs, p, k);
+    plain_lent::release(runs, plain_decide::first_of(d), plain_decide::len_of(d));
     plain_decide::answer_of(d)
 }

@@ -1,1 +1,1 @@
-pub mod Chunked  -- a chunk of a class page, by its bytes into the page; entries of class pages
+pub mod Chunked  -- a chunk of a class page, by its bytes into the page

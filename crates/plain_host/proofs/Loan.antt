@@ -22,9 +22,6 @@ loan_whole s t b call a u d long L =
     subst (λ (x : List Extent). Serves (plain_of s t) b call (served_with a x) d) whole
     (subst (λ (x : List Extent). Serves (plain_of s x) b call (served_as a u) d) (take_all 12 t (omega arith)) (L.served (omega arith)))
 
-pub loan_served : (h : Host) (k : Kept) (x us : List Extent) (b : List ℕ) (call : Call) (a : Answer) (d : List ℕ) (r : Reply) → k ≡ h.kept → x ≡ h.runs → length x ≡ 12
-    → Lent k x b call a us d → r ≡ reply_with a us → Serves (shown h) b call (told r) d
-loan_served h k x us b call a d r ek ex long L er =
-    subst (λ (y : Reply). Serves (shown h) b call (told y) d) (sym er)
-    (subst (λ (y : List Extent). Serves (plain_of h.kept y) b call (served_with a us) d) ex
-    (subst (λ (y : Kept). Serves (plain_of y x) b call (served_with a us) d) ek (loan_whole k x b call a us d long L)))
+pub loan_served : (h : Host) (us : List Extent) (b : List ℕ) (call : Call) (a : Answer) (d : List ℕ) (r : Reply) → length h.runs ≡ 12 → Lent h.kept h.runs b call a us d
+    → r ≡ reply_with a us → Serves (shown h) b call (told r) d
+loan_served h us b call a d r long L er = subst (λ (y : Reply). Serves (shown h) b call (told y) d) (sym er) (loan_whole h.kept h.runs b call a us d long L)

@@ -24,30 +24,14 @@ pub struct Reply {
     pub value: u32,
 }
 
-fn runs_in(h: Host) -> [Extent; 12]
-    ensures { result ≡ h.runs }
-{
-    let runs = h.runs;
-    runs
-}
-
-fn kept_in(h: Host) -> Kept
-    ensures { result ≡ h.kept }
-{
-    let kept = h.kept;
-    kept
-}
-
 fn reply_with(a: Answer, runs: [Extent; 12]) -> Reply
     ensures { result ≡ reply_with a runs }
 {
-    let kept = a.after;
-    let after = Host {
-        kept: kept,
-        runs: runs,
-    };
     Reply {
-        after: after,
+        after: Host {
+            kept: a.after,
+            runs,
+        },
         number: a.number,
         value: a.value,
     }
@@ -57,30 +41,27 @@ fn reply_with(a: Answer, runs: [Extent; 12]) -> Reply
 pub fn format() -> Host
     ensures { Formats (shown result) }
 {
-    let kept = plain_engine::format();
     let none = Extent { first: 0, len: 0 };
     let mut runs = [none; 12];
     runs[0] = Extent { first: 0, len: 12 };
     Host {
-        kept: kept,
-        runs: runs,
+        kept: plain_engine::format(),
+        runs,
     }
 }
 
 pub fn alloc(h: Host, chunks: &mut [u8], size: u32) -> Reply
     ensures { Serves (shown h) chunks.old (Alloc size) (told result) chunks.new }
 {
-    let mut runs = runs_in(h);
-    let kept = kept_in(h);
-    let a = plain_engine::alloc(kept, &mut runs, chunks, size);
+    let mut runs = h.runs;
+    let a = plain_engine::alloc(h.kept, &mut runs, chunks, size);
     reply_with(a, runs)
 }
 
 pub fn free(h: Host, chunks: &mut [u8], at: Offset) -> Reply
     ensures { Serves (shown h) chunks.old (Free at.0) (told result) chunks.new }
 {
-    let mut runs = runs_in(h);
-    let kept = kept_in(h);
-    let a = plain_engine::free(kept, &mut runs, chunks, at);
+    let mut runs = h.runs;
+    let a = plain_engine::free(h.kept, &mut runs, chunks, at);
     reply_with(a, runs)
 }

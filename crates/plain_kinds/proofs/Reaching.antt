@@ -14,6 +14,7 @@ use Rattle.model.proofs.Classes.{own-few}
 use Rattle.plain.specs.Plain.{free_entry}
 use Rattle.plain.specs.declared.PageEntry.{PageEntry}
 use Rattle.plain_rules.specs.Rules.{run_reaches}
+use Rattle.plain_counts.proofs.Counting.{count_most}
 
 module _ (t : ℕ → Bool) where
   pub any_none : any t 0 ≡ false
@@ -32,8 +33,12 @@ module _ (t : ℕ → Bool) where
   pub any-done : (n i : ℕ) → i ≤ n → n ≤ i → any t i ≡ false → false ≡ any t n
   any-done n i l h a = let d : i ≡ n = omega arith in sym (ap (any t) (sym d) ∙ a)
 
-pub own-fits : (c first n : ℕ) → c ≤ 8 → first ≡ own c → n ≡ chunks c → first ≤ n
-own-fits c first n h e f = omega (arith, own-few c h)
+pub ruleset anys = (any_none, any_more, any_hit, any-done)
+
+pub own_fits : (c first n : ℕ) → c ≤ 8 → first ≡ own c → n ≡ chunks c → first ≤ n
+own_fits c first n h e f = omega (arith, own-few c h)
+
+pub ruleset own_bounds = (count_most, own_fits)
 
 -- a run that reaches page p, found in the table
 pub reaches_at : (p q : ℕ) (t : List PageEntry) (e : PageEntry) (u : Bool) → e ≡ get_or t q free_entry → u ≡ run_reaches p q e → u ≡ run_reaches p q (get_or t q free_entry)

@@ -2,7 +2,8 @@
 // It has at least 12 entries, of which the first 12 are the table; what stands behind them stays.
 #![tactic(auto)]
 
-ghost use Rattle.std.specs.Prelude.{◌≡◌, ◌++◌, ◌<◌, ◌≤◌, length, get_or, set, take, drop};
+ghost use Rattle.std.specs.Prelude.{◌≡◌, ◌++◌, ◌≤◌, length, get_or, take, drop};
+ghost use Rattle.std.specs.List.{position};
 ghost use Rattle.plain.specs.Arrays.{place_of, pushed};
 ghost use Rattle.plain.specs.Table.{vacant, is_vacant, first_fit, len_of, cleared};
 ghost use Rattle.plain.specs.Mirror.{carved, returned};
@@ -13,31 +14,16 @@ use plain_runs::Test;
 
 // ---- entries
 
-// One entry of the slice.
-fn get(table: &[Extent], i: usize) -> Extent
-    requires { i < length table.now }
-    ensures { result ≡ get_or table.now i vacant }
-{
-    table[i]
-}
-
-// Stores one entry.
-fn put(table: &mut [Extent], i: usize, e: Extent)
-    requires { i < length table.old }
-    ensures { table.new ≡ set table.old i e }
-{
-    table[i] = e;
-}
-
 // One entry of the table; an empty place past its end.
 pub fn entry(table: &[Extent], i: usize) -> Extent
     requires { 12 ≤ length table.now }
     ensures { result ≡ get_or (take 12 table.now) i vacant }
 {
     if i < 12 {
-        return get(table, i);
+        table[i]
+    } else {
+        plain_runs::no_run()
     }
-    plain_runs::no_run()
 }
 
 // The place of the first entry that passes the test; 12 where none does.
@@ -45,15 +31,13 @@ pub fn scan(table: &[Extent], test: Test) -> usize
     requires { 12 ≤ length table.now }
     ensures { result ≡ place_of (passing test) (take 12 table.now) }
 {
-    let mut i: usize = 0;
-    while i < 12 {
-        let e = get(table, i);
-        if plain_runs::passes(test, e) {
-            break;
-        }
-        i += 1;
-    }
-    i
+    first_passing(&table[..12], test).unwrap_or(12)
+}
+
+fn first_passing(table: &[Extent], test: Test) -> Option<usize>
+    ensures { result ≡ position (passing test) table.now }
+{
+    table.iter().position(|e| plain_runs::passes(test, *e))
 }
 
 // The place of the first run of at least k pages; 12 where there is none.
@@ -61,8 +45,7 @@ pub fn first_fit(table: &[Extent], k: u32) -> usize
     requires { 12 ≤ length table.now }
     ensures { result ≡ first_fit k (take 12 table.now) }
 {
-    let test = plain_runs::holding(k);
-    scan(table, test)
+    scan(table, plain_runs::holding(k))
 }
 
 // The pages of the first entry that passes the test; 0 where none does.
@@ -70,9 +53,7 @@ fn len_of(table: &[Extent], test: Test) -> u32
     requires { 12 ≤ length table.now }
     ensures { result ≡ len_of (passing test) (take 12 table.now) }
 {
-    let i = scan(table, test);
-    let e = entry(table, i);
-    plain_runs::pages_of(e)
+    plain_runs::pages_of(entry(table, scan(table, test)))
 }
 
 // ---- pages taken
@@ -82,15 +63,9 @@ pub fn carve(table: &mut [Extent], i: usize, k: u32)
     requires { 12 ≤ length table.old }
     ensures { table.new ≡ carved i k (take 12 table.old) ++ drop 12 table.old }
 {
-    if k == 0 {
-        return;
+    if k != 0 && i < 12 {
+        table[i] = plain_runs::cut_front(table[i], k);
     }
-    if 12 <= i {
-        return;
-    }
-    let e = get(table, i);
-    let rest = plain_runs::cut_front(e, k);
-    put(table, i, rest);
 }
 
 // ---- pages released
@@ -100,12 +75,8 @@ fn clear_touching(table: &mut [Extent], p: u32, q: u32)
     requires { 12 ≤ length table.old }
     ensures { table.new ≡ cleared p q (take 12 table.old) ++ drop 12 table.old }
 {
-    let mut i: usize = 0;
-    while i < 12 {
-        let x = get(table, i);
-        let y = plain_runs::set_apart(x, p, q);
-        put(table, i, y);
-        i += 1;
+    for e in &mut table[..12] {
+        *e = plain_runs::set_apart(*e, p, q);
     }
 }
 
@@ -115,15 +86,13 @@ fn push_front(table: &mut [Extent], e: Extent)
     ensures { table.new ≡ pushed is_vacant e (take 12 table.old) ++ drop 12 table.old }
 {
     let mut carry = e;
-    let mut i: usize = 0;
-    while i < 12 {
-        let x = get(table, i);
-        put(table, i, carry);
+    for place in &mut table[..12] {
+        let x = *place;
+        *place = carry;
         if plain_runs::is_vacant(x) {
             break;
         }
         carry = x;
-        i += 1;
     }
 }
 
@@ -136,11 +105,8 @@ pub fn release(table: &mut [Extent], p: u32, k: u32)
         return;
     }
     let q = plain_runs::add(p, k);
-    let before = plain_runs::ending_before(p);
-    let l = len_of(table, before);
-    let behind = plain_runs::beginning_at(q);
-    let r = len_of(table, behind);
-    let e = plain_runs::whole_run(p, k, l, r);
+    let l = len_of(table, plain_runs::ending_before(p));
+    let r = len_of(table, plain_runs::beginning_at(q));
     clear_touching(table, p, q);
-    push_front(table, e);
+    push_front(table, plain_runs::whole_run(p, k, l, r));
 }

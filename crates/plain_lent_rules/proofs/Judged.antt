@@ -1,6 +1,5 @@
 -- The loop that tries the entries of the lent table.
-use Rattle.std.proofs.Common.{◌≡◌, ℕ, ◌+◌, ◌<◌, Bool, true, false, not, List, get_or, sym, refl, ◌∙◌, eqb, arith}
-use Rattle.std.proofs.lemmas.Bool.{ne_eqb}
+use Rattle.std.proofs.Common.{◌≡◌, ℕ, ◌+◌, ◌<◌, Bool, true, false, not, List, get_or, sym, refl, ◌∙◌, eqb}
 use Rattle.base.specs.Count.{bit}
 use Rattle.base.specs.Tests.{pick, all_below}
 use Rattle.branchless.proofs.Loops.{all_more, all-fails}
@@ -25,9 +24,9 @@ module _ (pages : List PageEntry) (t : List Extent) (p n : ℕ) (e : Extent) (z 
       passes true e = refl
       passes false e = sym e
 
-  pub tried-fails : p < 12 → z ≡ true → eqb p 12 ≡ table_ok pages t
+  pub tried-fails : p < 12 → z ≡ true → false ≡ table_ok pages t
   unfolding table_ok
-  tried-fails l h = ne_eqb p 12 (omega arith) ∙ all-fails (entry_ok pages t) 12 p (pick (eqb n (bit (free_page pages p))) (extent_ok pages e) false) l tried (fails _ (sym fz ∙ h))
+  tried-fails l h = all-fails (entry_ok pages t) 12 p (pick (eqb n (bit (free_page pages p))) (extent_ok pages e) false) l tried (fails _ (sym fz ∙ h))
     where
       fails : (b : Bool) → not b ≡ true → b ≡ false
       fails true e = sym e

@@ -1,7 +1,7 @@
 // Rules 2 and 3 on the lent table of free runs, which is read where it stands.
 #![tactic(auto)]
 
-ghost use Rattle.std.specs.Prelude.{◌≡◌, not, false, ◌+◌, ◌<◌, ◌≤◌, eqb, length, take};
+ghost use Rattle.std.specs.Prelude.{◌≡◌, not, false, ◌≤◌, eqb, length, take};
 ghost use Rattle.base.specs.Count.{bit};
 ghost use Rattle.base.specs.Tests.{pick};
 ghost use Rattle.plain_rules.specs.Counts.{free_page};
@@ -13,51 +13,43 @@ use plain::{Extent, PageEntry};
 
 // Each entry is a run that ends within the pages, and that no free page borders, or an empty place; a free page stands in one entry,
 // any other in none.
+#[tactic(auto, using(branchless::proofs::Loops::alls), unfolding(plain_rules::specs::Mirror::table_ok))]
 pub fn table_ok(runs: &[Extent], pages: [PageEntry; 12]) -> bool
     requires { 12 ≤ length runs.now }
     ensures { result ≡ table_ok pages (take 12 runs.now) }
 {
-    let mut p: usize = 0;
-    while p < 12 {
-        let times = count_holding(runs, p);
-        let e = plain_lent::entry(runs, p);
-        if breaks_rule(pages, times, e, p) {
-            break;
+    for p in 0..12 {
+        if breaks_rule(pages, count_holding(runs, p), plain_lent::entry(runs, p), p) {
+            return false;
         }
-        p += 1;
     }
-    p == 12
+    true
 }
 
 // How many entries have page p.
-fn count_holding(runs: &[Extent], p: usize) -> u64
+fn count_holding(runs: &[Extent], p: usize) -> usize
     requires { 12 ≤ length runs.now }
     ensures { result ≡ how_many (holds_page p) (take 12 runs.now) }
 {
-    let mut k: u64 = 0;
-    let mut i: usize = 0;
-    while i < 12 {
-        let e = plain_lent::entry(runs, i);
-        k = count_one(k, e, p);
-        i += 1;
-    }
-    k
+    count_all(&runs[..12], p)
 }
 
-// k, and one more where the entry has page p.
-fn count_one(k: u64, e: Extent, p: usize) -> u64
-    requires { k < 12 }
-    ensures { result ≡ k + bit (holds_page p e) }
+#[tactic(auto, using(plain_rules::proofs::Many::many_count))]
+fn count_all(table: &[Extent], p: usize) -> usize
+    ensures { result ≡ how_many (holds_page p) table.now }
 {
-    k + one_if(plain_lists::holds_page(e, p))
+    table
+        .iter()
+        .filter(|e| plain_lists::holds_page(**e, p))
+        .count()
 }
 
 // Whether page p, which stands in so many entries, or the entry e breaks a rule.
-fn breaks_rule(pages: [PageEntry; 12], times: u64, e: Extent, p: usize) -> bool
+fn breaks_rule(pages: [PageEntry; 12], times: usize, e: Extent, p: usize) -> bool
     ensures { result ≡ not (pick (eqb times (bit (free_page pages p))) (extent_ok pages e) false) }
 {
     let due = one_if(plain_counts::is_free(pages, p));
-    let listed = times == due;
+    let listed = times as u64 == due;
     let fine = plain_lists::extent_ok(pages, e);
     !both(listed, fine)
 }

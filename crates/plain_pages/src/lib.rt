@@ -2,63 +2,57 @@
 #![tactic(auto)]
 
 ghost use Rattle.std.specs.Prelude.{◌≡◌};
+ghost use Rattle.answers.specs.Outcome.{number_of};
 ghost use Rattle.plain.specs.Arrays.{remade};
 ghost use Rattle.plain.specs.Pages.{taken_at, freed_at, offset_of};
 ghost use Rattle.plain.specs.Mirror.{done_with, done_granted, done_refused, kept_taken, kept_freed, pages_done};
 
+use answers::Refusal;
 use plain::{Counts, Done, Extent, Kept, PageEntry};
 
 // The entry of page j after the k pages from p on became a taken run.
+#[tactic(auto, unfolding(plain::specs::Pages::taken_at, base::specs::Tests::pick))]
 fn taken_at(p: u32, k: u32, j: u32, e: PageEntry) -> PageEntry
     ensures { result ≡ taken_at p k j e }
 {
     if j == p {
-        return PageEntry {
+        PageEntry {
             kind: 2,
             class: 0,
             run: k,
-        };
-    }
-    if j < p {
-        return e;
-    }
-    let end = p as u64 + k as u64;
-    if (j as u64) < end {
-        return PageEntry {
+        }
+    } else if p < j && (j as u64) < p as u64 + k as u64 {
+        PageEntry {
             kind: 3,
             class: 0,
             run: 0,
-        };
+        }
+    } else {
+        e
     }
-    e
 }
 
 // The entry of page j after they became free.
+#[tactic(auto, unfolding(plain::specs::Pages::freed_at, plain::specs::Plain::free_entry, base::specs::Tests::pick))]
 fn freed_at(p: u32, k: u32, j: u32, e: PageEntry) -> PageEntry
     ensures { result ≡ freed_at p k j e }
 {
-    if j < p {
-        return e;
-    }
-    let end = p as u64 + k as u64;
-    if (j as u64) < end {
-        return PageEntry {
+    if p <= j && (j as u64) < p as u64 + k as u64 {
+        PageEntry {
             kind: 0,
             class: 0,
             run: 0,
-        };
+        }
+    } else {
+        e
     }
-    e
 }
 
 fn all_taken(mut pages: [PageEntry; 12], p: u32, k: u32) -> [PageEntry; 12]
     ensures { result ≡ remade (taken_at p k) 0 pages }
 {
-    let mut j: u32 = 0;
-    while j < 12 {
-        let i = j as usize;
-        pages[i] = taken_at(p, k, j, pages[i]);
-        j += 1;
+    for (j, e) in pages.iter_mut().enumerate() {
+        *e = taken_at(p, k, j as u32, *e);
     }
     pages
 }
@@ -66,108 +60,105 @@ fn all_taken(mut pages: [PageEntry; 12], p: u32, k: u32) -> [PageEntry; 12]
 fn all_freed(mut pages: [PageEntry; 12], p: u32, k: u32) -> [PageEntry; 12]
     ensures { result ≡ remade (freed_at p k) 0 pages }
 {
-    let mut j: u32 = 0;
-    while j < 12 {
-        let i = j as usize;
-        pages[i] = freed_at(p, k, j, pages[i]);
-        j += 1;
+    for (j, e) in pages.iter_mut().enumerate() {
+        *e = freed_at(p, k, j as u32, *e);
     }
     pages
 }
 
 // The k pages from p on become a taken run.
+#[tactic(auto, unfolding(plain::specs::Mirror::kept_taken))]
 fn take_pages(s: Kept, p: u32, k: u32) -> Kept
     ensures { result ≡ kept_taken s p k }
 {
-    let before = s.pages;
-    let pages = all_taken(before, p, k);
-    let ready = s.ready;
-    let counts = s.counts;
     Kept {
-        pages: pages,
-        ready: ready,
-        counts: counts,
-        free: s.free,
+        pages: all_taken(s.pages, p, k),
+        ..s
     }
 }
 
 // The k pages from p on become free.
+#[tactic(auto, unfolding(plain::specs::Mirror::kept_freed))]
 pub fn free_pages(s: Kept, p: u32, k: u32) -> Kept
     ensures { result ≡ kept_freed s p k }
 {
-    let before = s.pages;
-    let pages = all_freed(before, p, k);
-    let ready = s.ready;
-    let counts = s.counts;
     Kept {
-        pages: pages,
-        ready: ready,
-        counts: counts,
-        free: s.free,
+        pages: all_freed(s.pages, p, k),
+        ..s
     }
 }
 
 // ---- answers
 
 // The table of free runs stays.
+#[tactic(auto, unfolding(plain::specs::Mirror::done_granted))]
 pub fn grant(s: Kept, value: u32) -> Done
     ensures { result ≡ done_granted s value }
 {
     Done {
         after: s,
         number: 0,
-        value: value,
+        value,
         first: 0,
         len: 0,
     }
 }
 
 // The k pages from p on leave the table of free runs or come back.
+#[tactic(auto, unfolding(plain::specs::Mirror::done_with))]
 pub fn grant_with(s: Kept, value: u32, p: u32, k: u32) -> Done
     ensures { result ≡ done_with s value p k }
 {
     Done {
         after: s,
         number: 0,
-        value: value,
+        value,
         first: p,
         len: k,
     }
 }
 
+#[tactic(auto, unfolding(plain::specs::Mirror::done_refused))]
 pub fn refuse(s: Kept, number: u8) -> Done
     ensures { result ≡ done_refused s number }
 {
     Done {
         after: s,
-        number: number,
+        number,
         value: 0,
         first: 0,
         len: 0,
     }
 }
 
+pub fn refuse_as(s: Kept, why: Refusal) -> Done
+    ensures { result ≡ done_refused s (number_of why) }
+{
+    refuse(s, u8::from(why))
+}
+
 // The bytes of p pages, which is also where page p begins.
+#[tactic(auto, unfolding(plain::specs::Pages::offset_of, plain::specs::Table::wrap))]
 pub fn offset_of(p: u32) -> u32
     ensures { result ≡ offset_of p }
 {
-    ((4096 * (p as u64)) % 4294967296) as u32
+    p.wrapping_mul(4096)
 }
 
 fn grant_run(s: Kept, p: u32, k: u32) -> Done
     ensures { result ≡ done_with (kept_taken s p k) (offset_of p) p k }
 {
-    let at = offset_of(p);
-    let after = take_pages(s, p, k);
-    grant_with(after, at, p, k)
+    grant_with(take_pages(s, p, k), offset_of(p), p, k)
 }
 
 // Alloc of k pages from the run e; an empty place is none.
+#[tactic(auto, unfolding(plain::specs::Mirror::pages_done, plain::specs::Table::is_vacant, base::specs::Tests::pick))]
 pub fn alloc_from(s: Kept, k: u32, e: Extent) -> Done
     ensures { result ≡ pages_done s k e }
 {
     if e.len == 0 {
-        return refuse(s, 4);
+        refuse_as(s, Refusal::NoRoom)
+    } else {
+        grant_run(s, e.first, k)
     }
-    grant_run(s, e.first, k)
 }

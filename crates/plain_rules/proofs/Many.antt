@@ -5,10 +5,11 @@ use mathlib.Core.Bool.{Bool, true, false}
 use mathlib.Core.List.{List, [], ◌∷◌}
 use Prim.Native.Nat.{ℕ, zero, suc, ◌+◌, ◌≤◌, ◌<◌}
 use native.Mathlib.Nat.{zero-add}
-use native.Mathlib.Numerals.{add-one}
 use native.Mathlib.Omega.{arith}
-use lib.ListN.{length, get_or, drop}
-use lib.Seq.{drop-cons}
+use lib.ListN.{length, get_or}
+use Rattle.std.proofs.Common.{cond}
+use Rattle.std.proofs.lemmas.List.Recursion.{is_count_by}
+use Rattle.std.specs.List.{count_by}
 use Rattle.base.specs.Count.{bit}
 use Rattle.base.specs.Lists.{Mem}
 use Rattle.plain_rules.specs.Rules.{how_many}
@@ -58,28 +59,11 @@ module _ {A : Type 0} where
         go true e ih = (x, inl refl, e)
         go false e ih = let (y, m, f) = ih (omega (arith, many_skip x t e)) in (y, inr m, f)
 
-    -- ---- the steps of a loop
-
-    pub many_start : (t : List A) → 0 + how_many q (drop 0 t) ≡ how_many q t
-    many_start t = zero-add _
-
-    pub many_next : (t : List A) (i k x : ℕ) (d : A) (b : Bool) → k + how_many q (drop i t) ≡ how_many q t → i < length t → b ≡ q (get_or t i d) → x ≡ bit b
-        → (k + x) + how_many q (drop (i + 1) t) ≡ how_many q t
-    many_next t i k x d b e l f g =
-        let h : k + how_many q (get_or t i d ∷ drop (suc i) t) ≡ how_many q t = rw (drop-cons t i d l) at e in
-        rw (add-one i) (step h)
+    -- std's word for it
+    pub many_count : (t : List A) → how_many q t ≡ count_by q t
+    unfolding how_many
+    many_count t = is_count_by (how_many q) q refl (λ x xs. step (q x) (how_many q xs)) t
       where
-        step : k + how_many q (get_or t i d ∷ drop (suc i) t) ≡ how_many q t → (k + x) + how_many q (drop (suc i) t) ≡ how_many q t
-        step h = let z : x ≡ bit (q (get_or t i d)) = g ∙ ap bit f in omega (arith, split)
-          where
-            split : how_many q (get_or t i d ∷ drop (suc i) t) ≡ x + how_many q (drop (suc i) t)
-            split = unfold how_many in rw (g, f)
-
-    pub many_end : (t : List A) (i k : ℕ) → k + how_many q (drop i t) ≡ how_many q t → length t ≤ i → k ≡ how_many q t
-    many_end t i k e l = omega (arith, e, rest t i l)
-      where
-        rest : (t : List A) (i : ℕ) → length t ≤ i → how_many q (drop i t) ≡ 0
-        rest [] zero h = unfold how_many in refl
-        rest [] (suc i) h = unfold how_many in refl
-        rest (x ∷ t) zero h = absurd (omega arith)
-        rest (x ∷ t) (suc i) h = rest t i (omega arith)
+        step : (b : Bool) (n : ℕ) → bit b + n ≡ cond b (1 + n) n
+        step true n = refl
+        step false n = zero-add n

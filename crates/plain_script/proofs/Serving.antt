@@ -29,6 +29,8 @@ use Rattle.plain.specs.declared.Extent.{Extent}
 use Rattle.plain_rules.specs.Counts.{free_in as plain_free}
 use Rattle.plain_rules.specs.Rules.{how_many, is_sound}
 use Rattle.plain_rules.proofs.Counted.{free-is}
+use Rattle.plain_rules.proofs.Many.{many_count}
+use Rattle.std.specs.List.{count_by}
 use Rattle.plain_decide.specs.Calls.{outcome_of, Serves, Formats}
 use Rattle.plain_host.specs.Host.{shown, told}
 use Rattle.plain_host.specs.declared.Host.{Host}
@@ -116,7 +118,7 @@ replies-few m input = omega (arith, exchange-fits m input, length-append (joined
 
 -- ---- the last line
 
-pub runs-counted : (t : List Extent) → how_many (holds 1) t ≡ length (read_runs t)
+runs-counted : (t : List Extent) → how_many (holds 1) t ≡ length (read_runs t)
 unfolding how_many holds read_runs is_vacant pick
 runs-counted [] = refl
 runs-counted (e ∷ t) = go e.len (runs-counted t)
@@ -124,6 +126,10 @@ runs-counted (e ∷ t) = go e.len (runs-counted t)
     go : (n : ℕ) → how_many (holds 1) t ≡ length (read_runs t) → bit (leb 1 n) + how_many (holds 1) t ≡ length (pick (eqb n 0) (read_runs t) (run_of e ∷ read_runs t))
     go zero ih = omega (arith, ih)
     go (suc n) ih = rw (ne_eqb (suc n) 0 (λ z. omega arith), le-leb 1 (suc n) (omega arith)) (omega (arith, ih))
+
+pub runs_counted : (t : List Extent) → count_by (λ e. leb 1 e.len) t ≡ length (read_runs t)
+unfolding holds
+runs_counted t = sym (many_count (holds 1) t) ∙ runs-counted t
 
 plain-summary : (s : Plain) (b : List ℕ) → is_sound s b ≡ true → summary_line s.free (length (read_runs s.runs)) ≡ summary (read_plain s b)
 unfolding summary read_plain is_sound free_in

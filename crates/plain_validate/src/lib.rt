@@ -7,34 +7,36 @@ ghost use Rattle.plain.specs.Plain.{no_counts};
 ghost use Rattle.plain_rules.specs.Rules.{counts_ok};
 ghost use Rattle.plain_rules.specs.Mirror.{kept_page_ok, kept_sound};
 
-use branchless::{all3, both};
+use branchless::{all, both};
 use plain::{Counts, Kept, PageEntry};
 
 // ---- rule 6: counts
 
+#[tactic(auto, unfolding(plain_rules::specs::Rules::counts_ok))]
 fn counts_ok(pages: [PageEntry; 12], bytes: &[u8], c: u8, x: Counts) -> bool
     ensures { result ≡ counts_ok pages bytes.now c x }
 {
-    let used = plain_counts::count_used(pages, bytes, c);
-    let total = plain_counts::count_total(pages, c);
-    both(x.used == used, x.total == total)
+    both(
+        x.used == plain_counts::count_used(pages, bytes, c),
+        x.total == plain_counts::count_total(pages, c),
+    )
 }
 
+#[tactic(auto, using(branchless::proofs::Loops::alls), unfolding(plain::specs::Plain::no_counts))]
 fn classes_ok(pages: [PageEntry; 12], bytes: &[u8], counts: [Counts; 9]) -> bool
     ensures { result ≡ all_below (λ c. counts_ok pages bytes.now c (get_or counts c no_counts)) 9 }
 {
-    let mut c: u8 = 0;
-    while c < 9 {
-        if !counts_ok(pages, bytes, c, counts[c as usize]) {
+    for (c, x) in counts.iter().enumerate() {
+        if !counts_ok(pages, bytes, c as u8, *x) {
             return false;
         }
-        c += 1;
     }
     true
 }
 
 // ---- all of them
 
+#[tactic(auto, unfolding(plain_rules::specs::Mirror::kept_page_ok))]
 fn page_ok(pages: [PageEntry; 12], ready: [u8; 12], bytes: &[u8], p: usize) -> bool
     requires { p < 12 }
     ensures { result ≡ kept_page_ok pages ready bytes.now p }
@@ -45,27 +47,25 @@ fn page_ok(pages: [PageEntry; 12], ready: [u8; 12], bytes: &[u8], p: usize) -> b
     both(kind, listed)
 }
 
+#[tactic(auto, using(branchless::proofs::Loops::alls))]
 fn pages_ok(pages: [PageEntry; 12], ready: [u8; 12], bytes: &[u8]) -> bool
     ensures { result ≡ all_below (kept_page_ok pages ready bytes.now) 12 }
 {
-    let mut p: usize = 0;
-    while p < 12 {
+    for p in 0..12 {
         if !page_ok(pages, ready, bytes, p) {
             return false;
         }
-        p += 1;
     }
     true
 }
 
+#[tactic(auto, unfolding(plain_rules::specs::Mirror::kept_sound))]
 pub fn is_sound(s: Kept, bytes: &[u8]) -> bool
     ensures { result ≡ kept_sound s bytes.now }
 {
-    let table = s.pages;
-    let ready = s.ready;
-    let tallies = s.counts;
-    let pages = pages_ok(table, ready, bytes);
-    let free = plain_counts::count_free(table);
-    let counts = classes_ok(table, bytes, tallies);
-    all3(pages, s.free == free, counts)
+    all([
+        pages_ok(s.pages, s.ready, bytes),
+        s.free == plain_counts::count_free(s.pages),
+        classes_ok(s.pages, bytes, s.counts),
+    ])
 }

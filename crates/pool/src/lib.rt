@@ -13,8 +13,8 @@ ghost use Rattle.mending.specs.Checked.{check_outcome, mend_outcome, mended};
 ghost use Rattle.free_all_bytes.specs.FreeAll.{free_all_outcome, free_all_after};
 ghost use Rattle.free_all.specs.Outcome.{of_free_all};
 
-use answers::{Allocated, Batched, Formatted, Freed, Offset, Refusal};
-use free_all::FreedAll;
+use answers::{Offset, Refusal};
+use free_all::Failed;
 
 // Words of a class record.
 pub const EDITION_1: u8 = 2;
@@ -28,7 +28,7 @@ pub fn is_second(pool: &[u8]) -> bool
 }
 
 // Makes a pool of the edition, of as many pages as the slice has room for: the page count, or the refusal. Page bytes and tail stay.
-pub fn format(pool: &mut [u8], edition: u8) -> Formatted
+pub fn format(pool: &mut [u8], edition: u8) -> Result<u16, Refusal>
     ensures answer { of_format result ≡ format_as_outcome edition (length pool.old) }
     ensures slice { pool.new ≡ formatted_as edition pool.old }
 {
@@ -38,7 +38,7 @@ pub fn format(pool: &mut [u8], edition: u8) -> Formatted
     if edition == 2 {
         return format::format(pool, EDITION_2);
     }
-    Formatted::Refused(Refusal::NotSound)
+    Err(Refusal::NotSound)
 }
 
 // The number of the first rule that the pool breaks; 0 where it is sound.
@@ -53,7 +53,7 @@ pub fn broken_rule(pool: &[u8]) -> u8
 }
 
 // Takes a block of at least `size` bytes: its offset, or the refusal.
-pub fn alloc(pool: &mut [u8], size: u32) -> Allocated
+pub fn alloc(pool: &mut [u8], size: u32) -> Result<Offset, Refusal>
     ensures answer { of_alloc result ≡ answered (width_of pool.old) pool.old (Alloc size) }
     ensures slice { pool.new ≡ after (width_of pool.old) pool.old (Alloc size) }
 {
@@ -65,7 +65,7 @@ pub fn alloc(pool: &mut [u8], size: u32) -> Allocated
 }
 
 // Gives back the block that starts at the offset: the bytes released, or the refusal.
-pub fn free(pool: &mut [u8], at: Offset) -> Freed
+pub fn free(pool: &mut [u8], at: Offset) -> Result<u32, Refusal>
     ensures answer { of_free result ≡ answered (width_of pool.old) pool.old (Free at.0) }
     ensures slice { pool.new ≡ after (width_of pool.old) pool.old (Free at.0) }
 {
@@ -78,7 +78,7 @@ pub fn free(pool: &mut [u8], at: Offset) -> Freed
 
 // Serves a list of request words under one validation, each on the pool that the one before left, and puts the words of their answers
 // into a second slice (SPEC 12).
-pub fn batch(pool: &mut [u8], requests: &[u64], answers: &mut [u64]) -> Batched
+pub fn batch(pool: &mut [u8], requests: &[u64], answers: &mut [u64]) -> Result<(), Refusal>
     ensures answer { of_batch result ≡ batch_outcome (width_of pool.old) pool.old requests.now answers.old }
     ensures pool { pool.new ≡ batch_pool (width_of pool.old) pool.old requests.now answers.old }
     ensures answers { answers.new ≡ batch_answers (width_of pool.old) pool.old requests.now answers.old }
@@ -91,7 +91,7 @@ pub fn batch(pool: &mut [u8], requests: &[u64], answers: &mut [u64]) -> Batched
 }
 
 // Whether the second slice is accepted as a mended copy of the first, whoever mended it (SPEC 14).
-pub fn check_mended(damaged: &[u8], mended: &[u8]) -> Batched
+pub fn check_mended(damaged: &[u8], mended: &[u8]) -> Result<(), Refusal>
     ensures { of_batch result ≡ check_outcome (width_of damaged.now) damaged.now mended.now }
 {
     if is_second(damaged) {
@@ -102,7 +102,7 @@ pub fn check_mended(damaged: &[u8], mended: &[u8]) -> Batched
 }
 
 // Writes a mended copy of a damaged pool into a second slice: the page count, or the refusal (SPEC 14).
-pub fn mend(damaged: &[u8], target: &mut [u8]) -> Formatted
+pub fn mend(damaged: &[u8], target: &mut [u8]) -> Result<u16, Refusal>
     ensures answer { of_format result ≡ mend_outcome (width_of damaged.now) damaged.now target.old }
     ensures slice { target.new ≡ mended (width_of damaged.now) damaged.now target.old }
 {
@@ -114,7 +114,7 @@ pub fn mend(damaged: &[u8], target: &mut [u8]) -> Formatted
 }
 
 // Gives back the blocks at all offsets of a list, or none where single frees in that order would not all succeed (SPEC 17).
-pub fn free_all(pool: &mut [u8], offsets: &[u32]) -> FreedAll
+pub fn free_all(pool: &mut [u8], offsets: &[u32]) -> Result<u32, Failed>
     ensures answer { of_free_all result ≡ free_all_outcome (width_of pool.old) pool.old offsets.now }
     ensures slice { pool.new ≡ free_all_after (width_of pool.old) pool.old offsets.now }
 {

@@ -1,44 +1,23 @@
 -- Powers of ten, and how many digits a number has.
 use mathlib.Core.Path.{◌≡◌, refl}
 use mathlib.Core.Bool.{Bool, true, false}
-use Prim.Native.Nat.{ℕ, zero, suc, ◌+◌, ◌*◌, ◌≤◌, ◌<◌}
-use native.Mathlib.Numerals.{add-one}
+use Prim.Native.Nat.{ℕ, zero, suc, ◌^◌, ◌≤◌, ◌<◌}
 use native.Mathlib.Omega.{arith}
+use Rattle.std.proofs.Math.Nat.{pow-succ', pow-le-pow_right, one-le-pow}
 use lib.ListN.{length}
-use borrow.Author.Rules.{rules}
 use Rattle.base.specs.Tests.{pick}
 use Rattle.printing.specs.Text.{ten_to, digits, many_places, places, decimal}
 
+pub ten_power : (k : ℕ) → ten_to k ≡ 10 ^ k
+unfolding ten_to
+ten_power zero = refl
+ten_power (suc k) = rw (pow-succ' 10 k) (rw (ten_power k))
+
+pub power_small : (k : ℕ) → k ≤ 10 → 10 ^ k ≤ 10000000000
+power_small k h = pow-le-pow_right {n = 10} (omega arith) h
+
 pub ten_pos : (k : ℕ) → 0 < ten_to k
-unfolding ten_to
-ten_pos zero = omega arith
-ten_pos (suc k) = omega (arith, ten_pos k)
-
-pub ten_small : (k : ℕ) → k ≤ 10 → ten_to k ≤ 10000000000
-unfolding ten_to
-ten_small zero h = omega arith
-ten_small (suc zero) h = omega arith
-ten_small (suc (suc zero)) h = omega arith
-ten_small (suc (suc (suc zero))) h = omega arith
-ten_small (suc (suc (suc (suc zero)))) h = omega arith
-ten_small (suc (suc (suc (suc (suc zero))))) h = omega arith
-ten_small (suc (suc (suc (suc (suc (suc zero)))))) h = omega arith
-ten_small (suc (suc (suc (suc (suc (suc (suc zero))))))) h = omega arith
-ten_small (suc (suc (suc (suc (suc (suc (suc (suc zero)))))))) h = omega arith
-ten_small (suc (suc (suc (suc (suc (suc (suc (suc (suc zero))))))))) h = omega arith
-ten_small (suc (suc (suc (suc (suc (suc (suc (suc (suc (suc zero)))))))))) h = omega arith
-ten_small (suc (suc (suc (suc (suc (suc (suc (suc (suc (suc (suc k))))))))))) h = absurd (omega arith)
-
-pub ten_none : 1 ≡ ten_to 0
-unfolding ten_to
-ten_none = refl
-
-pub ten_more : (p i q : ℕ) → p ≡ ten_to i → q ≡ p * 10 → q ≡ ten_to (i + 1)
-unfolding ten_to
-ten_more p i q e d = rw (add-one i) (omega (arith, e, d))
-
-pub ten_done : (p i k : ℕ) → i ≤ k → k ≤ i → p ≡ ten_to i → p ≡ ten_to k
-ten_done p i k h l e = let d : i ≡ k = omega arith in rw (← d) e
+ten_pos k = rw (ten_power k) (one-le-pow k 10 (omega arith))
 
 abbrev Few : ℕ → Type 0
 Few k = (1 ≤ k) × (k ≤ 10)
@@ -72,5 +51,3 @@ length-decimal v = length_digits v (places v)
 
 pub decimal-few : (v : ℕ) → Few (length (decimal v))
 decimal-few v = rw (length-decimal v) (places-few v)
-
-pub ruleset tens = (ten_none, ten_more, ten_done, rules)

@@ -2,72 +2,35 @@
 #![tactic(auto)]
 
 ghost use Rattle.std.specs.Prelude.{◌≡◌, ◌+◌, ◌/◌, ◌%◌, ◌≤◌, ◌<◌, length};
-ghost use Rattle.printing.specs.Text.{ten_to, many_places, places, decimal, phrase, line, pair_line, written, Prints};
+ghost use Rattle.printing.specs.Text.{ten_to, places, decimal, phrase, line, pair_line, written, Prints};
 
 // Writes a text from place n on, and answers the place after it.
 pub fn put_text(out: &mut [u8], n: usize, text: &[u8]) -> usize
     requires { n + length text.now ≤ 1048576 }
     ensures { Prints out.old out.new n result text.now }
 {
-    let mut i = 0;
-    while i < text.len() {
-        cells::put_byte(out, n + i, text[i]);
-        i += 1;
+    for (i, b) in text.iter().enumerate() {
+        cells::put_byte(out, n + i, *b);
     }
-    n + i
+    n + text.len()
 }
 
-fn many_places(v: u32) -> usize
-    ensures { result ≡ many_places v }
-{
-    if v < 1000000 {
-        return 6;
-    }
-    if v < 10000000 {
-        return 7;
-    }
-    if v < 100000000 {
-        return 8;
-    }
-    if v < 1000000000 {
-        return 9;
-    }
-    10
-}
-
+#[tactic(auto, using(base::proofs::Tests::picks), unfolding(crate::specs::Text::places, crate::specs::Text::many_places))]
 fn places_of(v: u32) -> usize
     ensures { result ≡ places v }
 {
-    if v < 10 {
-        return 1;
+    match v {
+        0..=9 => 1,
+        10..=99 => 2,
+        100..=999 => 3,
+        1000..=9999 => 4,
+        10000..=99999 => 5,
+        100000..=999999 => 6,
+        1000000..=9999999 => 7,
+        10000000..=99999999 => 8,
+        100000000..=999999999 => 9,
+        _ => 10,
     }
-    if v < 100 {
-        return 2;
-    }
-    if v < 1000 {
-        return 3;
-    }
-    if v < 10000 {
-        return 4;
-    }
-    if v < 100000 {
-        return 5;
-    }
-    many_places(v)
-}
-
-fn ten_to(k: usize) -> u64
-    requires { k ≤ 10 }
-    ensures answer { result ≡ ten_to k }
-    ensures bound { 0 < result }
-{
-    let mut p: u64 = 1;
-    let mut i = 0;
-    while i < k {
-        p *= 10;
-        i += 1;
-    }
-    p
 }
 
 // The digit that counts ten_to(k), in ASCII.
@@ -75,7 +38,7 @@ fn digit(v: u32, k: usize) -> u8
     requires { k ≤ 10 }
     ensures { result ≡ 48 + v / ten_to k % 10 }
 {
-    (48 + v as u64 / ten_to(k) % 10) as u8
+    (48 + v as u64 / 10u64.pow(k as u32) % 10) as u8
 }
 
 fn put_decimal(out: &mut [u8], n: usize, v: u32) -> usize
@@ -83,9 +46,7 @@ fn put_decimal(out: &mut [u8], n: usize, v: u32) -> usize
     ensures { (result ≡ n + length (decimal v)) × (out.new ≡ written out.old n (decimal v)) × (result ≤ n + 10) }
 {
     let mut at = n;
-    let mut k = places_of(v);
-    while k > 0 {
-        k -= 1;
+    for k in (0..places_of(v)).rev() {
         cells::put_byte(out, at, digit(v, k));
         at += 1;
     }

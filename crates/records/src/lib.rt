@@ -85,27 +85,13 @@ pub fn place(from: u16, step: u8, i: u16) -> usize
 pub fn free_to(h: Header, n: u16) -> Header
     ensures { result ≡ free_to h n }
 {
-    Header {
-        edition: h.edition,
-        min_shift: h.min_shift,
-        page_shift: h.page_shift,
-        pages: h.pages,
-        free_pages: n,
-        first_run: PageNumber(h.first_run.0),
-    }
+    Header { free_pages: n, ..h }
 }
 
 pub fn first_run_to(h: Header, p: PageNumber) -> Header
     ensures { result ≡ first_run_to h p.0 }
 {
-    Header {
-        edition: h.edition,
-        min_shift: h.min_shift,
-        page_shift: h.page_shift,
-        pages: h.pages,
-        free_pages: h.free_pages,
-        first_run: PageNumber(p.0),
-    }
+    Header { first_run: p, ..h }
 }
 
 // ---- a class record without pages, and with one field changed
@@ -125,23 +111,11 @@ pub fn empty_class() -> ClassRecord
 pub fn used_to(r: ClassRecord, n: u32) -> ClassRecord
     ensures { result ≡ used_to r n }
 {
-    ClassRecord {
-        first: PageNumber(r.first.0),
-        used: n,
-        total: r.total,
-        reqs: r.reqs,
-        fails: r.fails,
-    }
+    ClassRecord { used: n, ..r }
 }
 
 pub fn total_to(r: ClassRecord, n: u32) -> ClassRecord
     ensures { result ≡ total_to r n }
 {
-    ClassRecord {
-        first: PageNumber(r.first.0),
-        used: r.used,
-        total: n,
-        reqs: r.reqs,
-        fails: r.fails,
-    }
+    ClassRecord { total: n, ..r }
 }

@@ -46,10 +46,8 @@ fn put_classes(image: &[u8], out: &mut [u8], n: usize) -> usize
     ensures { Prints out.old out.new n result (classes_below (read 2 image.now) 9) }
 {
     let mut next = n;
-    let mut c = 0;
-    while c < 9 {
+    for c in 0..9 {
         next = put_class(image, c, out, next);
-        c += 1;
     }
     next
 }
@@ -84,10 +82,8 @@ fn put_runs(image: &[u8], pages: u16, out: &mut [u8], n: usize) -> usize
     ensures { Prints out.old out.new n result (lines_of span_line (spans (read 2 image.now))) }
 {
     let mut next = n;
-    let mut p = 0;
-    while p < pages {
+    for p in 0..pages {
         next = put_run_at(image, p, out, next);
-        p += 1;
     }
     next
 }
@@ -133,11 +129,9 @@ fn put_chunks(image: &[u8], pages: u16, p: u16, c: u8, out: &mut [u8], n: usize)
     let own = classes::own_count(c);
     let end = classes::class_chunks(c);
     let mut next = n;
-    let mut i = 0;
-    while i < end {
+    for i in 0..end {
         let marked = map_marks::get_mark(image, base, i);
         next = put_marked(own, marked, PageNumber(p), c, i, out, next);
-        i += 1;
     }
     next
 }
@@ -170,10 +164,8 @@ fn put_blocks(image: &[u8], pages: u16, out: &mut [u8], n: usize) -> usize
     ensures { Prints out.old out.new n result (lines_of block_line (blocks (read 2 image.now))) }
 {
     let mut next = n;
-    let mut p = 0;
-    while p < pages {
+    for p in 0..pages {
         next = put_page_at(image, pages, p, out, next);
-        p += 1;
     }
     next
 }

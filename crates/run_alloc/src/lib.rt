@@ -10,10 +10,7 @@ fn take_free(pool: &mut [u8], k: u16)
     ensures { pool.new ≡ fewer_free pool.old k }
 {
     let h = record_header::get_header(pool);
-    record_header::put_header(
-        pool,
-        records::free_to(h, run_extents::less(h.free_pages, k)),
-    );
+    record_header::put_header(pool, records::free_to(h, h.free_pages.saturating_sub(k)));
 }
 
 // What is left of the run that starts in page p after its front k pages takes its place.
@@ -21,7 +18,7 @@ fn keep_rest(pool: &mut [u8], w: u8, p: PageNumber, k: u16, l: Links)
     ensures { pool.new ≡ rest_kept w pool.old p.0 k l }
 {
     let t = run_extents::after(p, k);
-    let n = run_extents::less(l.run, k);
+    let n = l.run.saturating_sub(k);
     list_moves::replace(
         pool,
         w,

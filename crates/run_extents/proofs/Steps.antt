@@ -1,7 +1,7 @@
 -- The steps of the two loops: pages filled, and first fit.
 use mathlib.Core.Path.{◌≡◌, refl, ◌∙◌}
 use mathlib.Core.List.{List}
-use Prim.Native.Nat.{ℕ, zero, suc, ◌+◌, ◌-◌, ◌≤◌, ◌<◌}
+use Prim.Native.Nat.{ℕ, zero, suc, ◌+◌, ◌≤◌, ◌<◌}
 use native.Mathlib.Numerals.{add-one}
 use native.Mathlib.Omega.{arith}
 use borrow.Author.Rules.{rules}
@@ -32,9 +32,9 @@ pub ruleset fills = (fill_none, fill_one, fill-all, rules)
 
 -- ---- first fit
 
-pub fit-start : (w : ℕ) (s : List ℕ) (P k : ℕ) (h : Header) → h ≡ header_at s → fit_from w s P k h.first_run.0 ≡ fit_in w s P k
+pub fit-start : (w : ℕ) (s : List ℕ) (i P k : ℕ) (h : Header) → h ≡ header_at s → i ≡ P → fit_from w s i k h.first_run.0 ≡ fit_in w s P k
 unfolding fit_in
-fit-start w s P k h e = rw e
+fit-start w s i P k h e d = rw (e, d)
 
 pub fit_over : (w : ℕ) (s : List ℕ) (i k p x : ℕ) → i ≤ 0 → fit_from w s i k p ≡ x → no_page ≡ x
 unfolding fit_from
@@ -52,9 +52,8 @@ module _ (w : ℕ) (s : List ℕ) (k p x : ℕ) (l : Links) (page : p ≡ no_pag
   fit_here zero h r e = absurd (omega arith)
   fit_here (suc i) h r e = rw (ne_eqb p no_page page, ← read, le-leb k l.run r) at e
 
-  pub fit_next : (i : ℕ) → 0 < i → l.run < k → fit_from w s i k p ≡ x → fit_from w s (i - 1) k l.next.0 ≡ x
+  pub fit_next : (i j : ℕ) → i ≡ suc j → l.run < k → fit_from w s i k p ≡ x → fit_from w s j k l.next.0 ≡ x
   unfolding fit_from pick
-  fit_next zero h r e = absurd (omega arith)
-  fit_next (suc i) h r e = let d : suc i - 1 ≡ i = omega arith in rw d (rw (ne_eqb p no_page page, ← read, lt-leb k l.run r) at e)
+  fit_next i j d r e = rw (ne_eqb p no_page page, ← read, lt-leb k l.run r) at (rw d at e)
 
 pub ruleset fits = (fit-start, fit_over, fit-end, fit_here, fit_next, rules)

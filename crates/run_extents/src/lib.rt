@@ -7,23 +7,11 @@ ghost use Rattle.run_extents.specs.Mirror.{wrap, plain, fit_in};
 
 use records::{Links, NO_PAGE, PageNumber};
 
-pub fn add(a: u16, b: u16) -> u16
-    ensures { result ≡ wrap (a + b) }
-{
-    ((a as u32 + b as u32) % 65536) as u16
-}
-
 // The page k pages after p.
 pub fn after(p: PageNumber, k: u16) -> PageNumber
     ensures { result.0 ≡ wrap (p.0 + k) }
 {
-    PageNumber(add(p.0, k))
-}
-
-pub fn less(a: u16, b: u16) -> u16
-    ensures { result ≡ a - b }
-{
-    if b <= a { a - b } else { 0 }
+    PageNumber(p.0.wrapping_add(k))
 }
 
 // A page that is on no list.
@@ -31,11 +19,11 @@ pub fn plain_links(kind: u8, run: u16, prev: PageNumber) -> Links
     ensures { result ≡ plain kind run prev.0 }
 {
     Links {
-        kind: kind,
+        kind,
         class: 0,
-        run: run,
+        run,
         next: PageNumber(NO_PAGE),
-        prev: PageNumber(prev.0),
+        prev,
     }
 }
 
@@ -44,18 +32,16 @@ pub fn first_fit(pool: &[u8], w: u8, pages: u16, k: u32) -> PageNumber
     ensures { result.0 ≡ fit_in w pool.now pages k }
 {
     let h = record_header::get_header(pool);
-    let mut p = h.first_run.0;
-    let mut i = pages;
-    while 0 < i {
-        if p == NO_PAGE {
+    let mut p = h.first_run;
+    for _ in 0..pages {
+        if p.0 == NO_PAGE {
             return PageNumber(NO_PAGE);
         }
-        let l = record_page::get_links(pool, w, PageNumber(p));
+        let l = record_page::get_links(pool, w, p);
         if k <= l.run as u32 {
-            return PageNumber(p);
+            return p;
         }
-        p = l.next.0;
-        i -= 1;
+        p = l.next;
     }
     PageNumber(NO_PAGE)
 }

@@ -10,7 +10,7 @@ use records::{FIRST_FREE, INSIDE_FREE, NO_PAGE, PageNumber};
 fn sum(a: u16, b: u16, c: u16) -> u16
     ensures { result ≡ wrap (a + b + c) }
 {
-    ((a as u32 + b as u32 + c as u32) % 65536) as u16
+    a.wrapping_add(b).wrapping_add(c)
 }
 
 // Whether a run of n pages is there at all: its end or its first page is one page to blank.
@@ -25,7 +25,7 @@ fn give_free(pool: &mut [u8], k: u16)
     ensures { pool.new ≡ more_free pool.old k }
 {
     let h = record_header::get_header(pool);
-    record_header::put_header(pool, records::free_to(h, run_extents::add(h.free_pages, k)));
+    record_header::put_header(pool, records::free_to(h, h.free_pages.wrapping_add(k)));
 }
 
 fn unlink_run(pool: &mut [u8], w: u8, q: PageNumber)

@@ -10,7 +10,7 @@ use records::{FIRST_FREE, INSIDE_FREE, Links, PageNumber};
 pub fn before(p: PageNumber, k: u16) -> PageNumber
     ensures { result.0 ≡ p.0 - k }
 {
-    PageNumber(run_extents::less(p.0, k))
+    PageNumber(p.0.saturating_sub(k))
 }
 
 fn len_from(l: Links) -> u16
@@ -39,7 +39,7 @@ fn len_to(l: Links, p: PageNumber) -> u16
         return 1;
     }
     if l.kind == INSIDE_FREE {
-        return run_extents::less(p.0, l.prev.0);
+        return p.0.saturating_sub(l.prev.0);
     }
     0
 }

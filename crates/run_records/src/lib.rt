@@ -10,10 +10,8 @@ use records::{INSIDE_FREE, Links, PageNumber};
 pub fn fill(pool: &mut [u8], w: u8, p: PageNumber, n: u16, l: Links)
     ensures { pool.new ≡ filled w pool.old p.0 n l }
 {
-    let mut i = 0;
-    while i < n {
+    for i in 0..n {
         record_page::put_links(pool, w, run_extents::after(p, i), l);
-        i += 1;
     }
 }
 
@@ -23,7 +21,7 @@ fn put_last(pool: &mut [u8], w: u8, t: PageNumber, n: u16)
     record_page::put_links(
         pool,
         w,
-        run_extents::after(t, run_extents::less(n, 1)),
+        run_extents::after(t, n.saturating_sub(1)),
         run_extents::plain_links(INSIDE_FREE, 0, t),
     );
 }

@@ -1,7 +1,7 @@
 // A script served on a fresh pool of 12 pages, and its whole printout written into a slice.
 #![tactic(auto)]
 
-ghost use Rattle.std.specs.Prelude.{◌≡◌, ◌+◌, ◌*◌, ◌≤◌, length};
+ghost use Rattle.std.specs.Prelude.{Some, ◌≡◌, ◌+◌, ◌*◌, ◌≤◌, length};
 ghost use Rattle.std.proofs.Math.Option.{some};
 ghost use Rattle.model.specs.Calls.{Alloc, Free};
 ghost use Rattle.format.specs.Format.{format_outcome, formatted};
@@ -31,12 +31,11 @@ fn serve_give(pool: &mut [u8], at: Offset, out: &mut [u8], n: usize) -> usize
 
 fn serve_request(pool: &mut [u8], r: Request, out: &mut [u8], n: usize) -> usize
     requires { n ≤ 1000000 }
-    ensures { Serves pool.old pool.new out.old out.new n result (call_of r) }
+    ensures { Serves pool.old pool.new out.old out.new n result (call_of (Some r)) }
 {
     match r {
         Request::Take(size) => serve_take(pool, size, out, n),
         Request::Give(at) => serve_give(pool, at, out, n),
-        Request::Unreadable => script_replies::put_refusal(out, n, Refusal::Unreadable),
     }
 }
 
@@ -44,7 +43,10 @@ fn serve_line(pool: &mut [u8], line: &[u8], out: &mut [u8], n: usize) -> usize
     requires { n ≤ 1000000 }
     ensures { Serves pool.old pool.new out.old out.new n result (request line.now) }
 {
-    serve_request(pool, script_lines::read_line(line), out, n)
+    match script_lines::read_line(line) {
+        Some(r) => serve_request(pool, r, out, n),
+        None => script_replies::put_refusal(out, n, Refusal::Unreadable),
+    }
 }
 
 fn serve_lines(pool: &mut [u8], input: &[u8], out: &mut [u8], n: usize) -> usize

@@ -1,11 +1,11 @@
 -- A script, line by line: the lines of an input, and what a line asks for.
-use Rattle.std.specs.Prelude.{ℕ, Bool, cond, List, [], ◌∷◌, eqb, length, get_or, drop}
+use Rattle.std.specs.Prelude.{Option as Optional, Some, None, ℕ, Bool, cond, List, [], ◌∷◌, eqb, length, get_or, drop}
 use Rattle.std.proofs.Math.Option.{Option, none, some}
 use Rattle.base.specs.Tests.{pick, all_of}
 use Rattle.script_numbers.specs.Numeral.{value_of, is_number}
 use Rattle.model.specs.Calls.{Call, Alloc, Free}
 use Rattle.script_lines.specs.declared.Request.{Request}
-use Rattle.script_lines.specs.declared.Request.TheVariants.{Take, Give, Unreadable}
+use Rattle.script_lines.specs.declared.Request.TheVariants.{Take, Give}
 
 -- ---- lines
 
@@ -37,7 +37,7 @@ request line =
     (pick (begins line 103 105 118 101) (call_with Free (drop 5 line)) none)
 
 -- the call that a line was read as; none where it is unreadable
-abbrev pub call_of : Request → Option Call
-call_of (Take n) = some (Alloc n)
-call_of (Give off) = some (Free off.0)
-call_of Unreadable = none
+abbrev pub call_of : Optional Request → Option Call
+call_of (Some (Take n)) = some (Alloc n)
+call_of (Some (Give off)) = some (Free off.0)
+call_of None = none

@@ -6,14 +6,13 @@ ghost use Rattle.model.specs.Calls.{Alloc, Free};
 ghost use Rattle.script_lines.specs.Lines.{lines, begins, call_with, request, call_of};
 
 use answers::Offset;
-use branchless::all5;
+use branchless::all;
 
 // What a line asks for, in the script's words.
 #[derive(Clone, Copy)]
 pub enum Request {
     Take(u32),
     Give(Offset),
-    Unreadable,
 }
 
 // The end of the line that starts at a place: its newline, or the input's end.
@@ -21,14 +20,12 @@ pub fn line_end(input: &[u8], at: usize) -> usize
     requires { at < length input.now }
     ensures { (at ≤ result) × (result ≤ length input.now) × (lines (drop at input.now) ≡ take (result - at) (drop at input.now) ∷ lines (drop (result + 1) input.now)) }
 {
-    let mut end = at;
-    while end < input.len() {
+    for end in at..input.len() {
         if input[end] == 10 {
             return end;
         }
-        end += 1;
     }
-    end
+    input.len()
 }
 
 fn byte_is(s: &[u8], at: usize, want: u8) -> bool
@@ -40,37 +37,37 @@ fn byte_is(s: &[u8], at: usize, want: u8) -> bool
 fn starts_with(line: &[u8], a: u8, b: u8, c: u8, d: u8) -> bool
     ensures { result ≡ begins line.now a b c d }
 {
-    all5(
+    all([
         byte_is(line, 0, a),
         byte_is(line, 1, b),
         byte_is(line, 2, c),
         byte_is(line, 3, d),
         byte_is(line, 4, 32),
-    )
+    ])
 }
 
-fn take_of(s: &[u8]) -> Request
+fn take_of(s: &[u8]) -> Option<Request>
     ensures { call_of result ≡ call_with Alloc s.now }
 {
     if script_numbers::is_number(s) {
-        Request::Take(script_numbers::number(s))
+        Some(Request::Take(script_numbers::number(s)))
     } else {
-        Request::Unreadable
+        None
     }
 }
 
-fn give_of(s: &[u8]) -> Request
+fn give_of(s: &[u8]) -> Option<Request>
     ensures { call_of result ≡ call_with Free s.now }
 {
     if script_numbers::is_number(s) {
-        Request::Give(Offset(script_numbers::number(s)))
+        Some(Request::Give(Offset(script_numbers::number(s))))
     } else {
-        Request::Unreadable
+        None
     }
 }
 
-// What a line, without its newline, asks for.
-pub fn read_line(line: &[u8]) -> Request
+// What a line, without its newline, asks for; none where it is unreadable.
+pub fn read_line(line: &[u8]) -> Option<Request>
     ensures { call_of result ≡ request line.now }
 {
     if starts_with(line, 116, 97, 107, 101) {
@@ -79,5 +76,5 @@ pub fn read_line(line: &[u8]) -> Request
     if starts_with(line, 103, 105, 118, 101) {
         return give_of(&line[5..]);
     }
-    Request::Unreadable
+    None
 }

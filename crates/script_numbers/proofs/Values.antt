@@ -1,5 +1,5 @@
 -- The value of digits, capped.
-use mathlib.Core.Path.{◌≡◌, refl, ◌∙◌}
+use mathlib.Core.Path.{◌≡◌, refl, sym, ◌∙◌}
 use mathlib.Core.Bool.{Bool, true, false}
 use mathlib.Core.List.{List}
 use Prim.Native.Nat.{ℕ, ◌+◌, ◌-◌, ◌*◌, ◌≤◌, ◌<◌}
@@ -9,8 +9,10 @@ use lib.Dec.{leb}
 use lib.ListN.{length, get_or}
 use borrow.Author.Rules.{rules}
 use borrow.Author.Tests.{le-leb, lt-leb, leb-true, leb-false}
-use Rattle.base.specs.Tests.{pick}
-use Rattle.base.proofs.AllBelow.{each_of}
+use Rattle.std.specs.Bool.{MatchBool}
+use Rattle.std.specs.List.{AllWithin, HoldsAt}
+use Rattle.base.specs.Tests.{pick, all_below}
+use Rattle.base.proofs.AllBelow.{each_of, all-at, at_all}
 use Rattle.script_numbers.specs.Numeral.{value_of, is_number, capped}
 
 pub capped_small : (v : ℕ) → v ≤ 4294967295 → capped v ≡ v
@@ -37,6 +39,17 @@ capped_fits v = go (leb v 4294967295) refl
     go : (t : Bool) → leb v 4294967295 ≡ t → leb (capped v) 4294967295 ≡ t
     go true e = rw (capped_small v (leb-true v 4294967295 e)) e
     go false e = rw (capped-large v (leb-false v 4294967295 e))
+
+-- `all` over the bytes of s, as a test of each place
+pub all_is : (t : ℕ → Bool) (s : List ℕ) (r : Bool) →
+    MatchBool r (AllWithin (λ x. t x ≡ true) s 0 (length s)) ((k : ℕ) × (k < length s) × HoldsAt (λ x. t x ≡ false) s k) →
+    r ≡ all_below (λ i. t (get_or s i 0)) (length s)
+all_is t s true h = sym (at_all _ _ (λ k l. h k 0 (omega arith) l))
+all_is t s false (k, l, h) = go (all_below (λ i. t (get_or s i 0)) (length s)) refl
+  where
+    go : (b : Bool) → all_below (λ i. t (get_or s i 0)) (length s) ≡ b → false ≡ b
+    go false e = refl
+    go true e = sym (h 0) ∙ all-at _ _ e k l
 
 module _ (s : List ℕ) where
   pub value_none : 0 ≡ capped (value_of s 0)

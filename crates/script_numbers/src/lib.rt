@@ -5,31 +5,19 @@ ghost use Rattle.std.specs.Prelude.{◌≡◌, true, ◌+◌, ◌-◌, ◌*◌, 
 ghost use Rattle.base.specs.Tests.{pick, all_below};
 ghost use Rattle.script_numbers.specs.Numeral.{is_digit, value_of, is_number, capped};
 
-use branchless::{all4, both, implies, minus};
+use branchless::{all, implies};
 
+#[tactic(auto, using(base::proofs::Tests::picks), unfolding(crate::specs::Numeral::is_digit))]
 fn is_digit(b: u8) -> bool
     ensures { result ≡ is_digit b }
 {
-    both(48 <= b, b <= 57)
-}
-
-fn digit_at(s: &[u8], i: usize) -> bool
-    ensures { result ≡ is_digit (get_or s.now i 0) }
-{
-    is_digit(cells::get_byte(s, i))
+    matches!(b, b'0'..=b'9')
 }
 
 fn all_digits(s: &[u8]) -> bool
     ensures { result ≡ all_below (λ i. is_digit (get_or s.now i 0)) (length s.now) }
 {
-    let mut i = 0;
-    while i < s.len() {
-        if !digit_at(s, i) {
-            return false;
-        }
-        i += 1;
-    }
-    true
+    s.iter().all(|b| is_digit(*b))
 }
 
 // A zero leads only the number 0.
@@ -39,11 +27,12 @@ fn zero_alone(s: &[u8]) -> bool
     implies(cells::get_byte(s, 0) == 48, s.len() == 1)
 }
 
+#[tactic(auto, using(base::proofs::Tests::picks), unfolding(crate::specs::Numeral::capped))]
 fn cap(v: u64) -> u64
     ensures answer { result ≡ capped v }
     ensures bound { result ≤ 4294967296 }
 {
-    if v <= 4294967295 { v } else { 4294967296 }
+    v.min(4294967296)
 }
 
 // One digit more.
@@ -52,18 +41,17 @@ fn shifted(v: u64, b: u8) -> u64
     ensures answer { result ≡ capped (v * 10 + (b - 48)) }
     ensures bound { result ≤ 4294967296 }
 {
-    cap(v * 10 + minus(b as usize, 48) as u64)
+    cap(v * 10 + b.saturating_sub(48) as u64)
 }
 
+#[tactic(auto, using(crate::proofs::Values::values))]
 fn value(s: &[u8]) -> u64
     ensures answer { result ≡ capped (value_of s.now (length s.now)) }
     ensures bound { result ≤ 4294967296 }
 {
     let mut v: u64 = 0;
-    let mut i = 0;
-    while i < s.len() {
-        v = shifted(v, cells::get_byte(s, i));
-        i += 1;
+    for b in s {
+        v = shifted(v, *b);
     }
     v
 }
@@ -77,7 +65,7 @@ fn in_range(s: &[u8]) -> bool
 pub fn is_number(s: &[u8]) -> bool
     ensures { result ≡ is_number s.now }
 {
-    all4(0 < s.len(), all_digits(s), zero_alone(s), in_range(s))
+    all([0 < s.len(), all_digits(s), zero_alone(s), in_range(s)])
 }
 
 pub fn number(s: &[u8]) -> u32

@@ -1,12 +1,13 @@
 -- The free runs counted page by page, and the line in two parts.
 use mathlib.Core.Path.{◌≡◌, refl, sym, ◌∙◌}
-use mathlib.Core.Bool.{Bool}
+use mathlib.Core.Bool.{Bool, true, false}
 use mathlib.Core.List.{List}
 use Prim.Native.Nat.{ℕ, ◌+◌, ◌≤◌}
 use native.Mathlib.Numerals.{add-one}
 use native.Mathlib.Omega.{arith}
+use mir.Val.{bool_byte}
 use lib.ListN.{length, length-append}
-use Rattle.base.specs.Count.{sum, bit, count}
+use Rattle.base.specs.Count.{sum, count}
 use Rattle.base.proofs.Count.{count_bound}
 use Rattle.rules.specs.Read.{is_head}
 use Rattle.rules.specs.Rules.{kind_at}
@@ -24,9 +25,10 @@ module _ (w : ℕ) (s : List ℕ) (n : ℕ) where
   unfolding count sum
   seen_none = refl
 
-  pub seen_more : (p k x : ℕ) (b : Bool) → Seen p k → b ≡ kind_at (fields_of w s) n 1 p → x ≡ bit b → Seen (p + 1) (k + x)
+  pub seen_more : (p k : ℕ) (b : Bool) → Seen p k → b ≡ kind_at (fields_of w s) n 1 p → Seen (p + 1) (k + bool_byte b)
   unfolding count sum is_head kind_at
-  seen_more p k x b e d f = rw (add-one p, e, f, d)
+  seen_more p k true e d = rw (add-one p, e, ← d)
+  seen_more p k false e d = rw (add-one p, e, ← d)
 
   pub seen_few : (p k : ℕ) → Seen p k → k ≤ p
   seen_few p k e = rw e (count_bound (is_head (fields_of w s) n) p)

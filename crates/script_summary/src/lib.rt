@@ -7,7 +7,6 @@ ghost use Rattle.rules.specs.Bytes.{pages_in};
 ghost use Rattle.printing.specs.Text.{Prints};
 ghost use Rattle.script_summary.specs.Summary.{summary_line, free_runs, summary_of};
 
-use branchless::one_if;
 use printing::{put_line, put_phrase};
 use records::FIRST_FREE;
 
@@ -16,13 +15,11 @@ fn free_runs(pool: &[u8], w: u8, n: usize) -> u32
     requires { (n ≡ pages_in w pool.now) × (n ≤ no_page) }
     ensures { result ≡ free_runs w pool.now }
 {
-    let mut runs: u64 = 0;
-    let mut p = 0;
-    while p < n {
-        runs += one_if(validate_fields::kind_at(pool, w, n, FIRST_FREE, p));
-        p += 1;
+    let mut runs = 0;
+    for p in 0..n {
+        runs += validate_fields::kind_at(pool, w, n, FIRST_FREE, p) as u32;
     }
-    runs as u32
+    runs
 }
 
 fn put_counts(out: &mut [u8], n: usize, free: u32, runs: u32) -> usize

@@ -1,4 +1,5 @@
 -- An answer reads back from its word: a granted one has a value of 32 bits, and the refusals of a call are told apart by their numbers.
+use Rattle.std.specs.Prelude.{Result, Ok, Err}
 use mathlib.Core.Path.{◌≡◌, refl, ap, ◌∙◌}
 use mathlib.Core.Bool.{Bool, true, false, ◌&&◌, not}
 use mathlib.Core.List.{List}
@@ -27,6 +28,7 @@ use Rattle.rules.specs.Bytes.{map_base}
 use Rattle.map_count.specs.Mirror.{map_bits}
 use Rattle.run_extents.specs.Mirror.{fit_from, fit_in}
 use Rattle.sizes.specs.Mirror.{up_to64, up_to2048, class_for}
+use Rattle.answers.specs.declared.Refusal.{Refusal}
 use Rattle.locate.specs.declared.Found.{Found}
 use Rattle.locate.specs.Mirror.{past_found, start_found, sized_found, offset_found, class_found, run_found, kind_found, page_found, located}
 use Rattle.alloc_sound.specs.Mirror.{lowest_on, chunk_outcome, first_outcome, cut_outcome, new_outcome, from_outcome, class_outcome, run_outcome, pages_outcome, alloc_outcome}
@@ -147,7 +149,7 @@ unfolding freed_in pick
 no_start = refl
 
 module _ (w : ℕ) (s : List ℕ) (P : ℕ) where
-  abbrev FoundBack : Found → Type 0
+  abbrev FoundBack : Result Found Refusal → Type 0
   FoundBack f = FreeBack (found_outcome w s P f)
 
   chunk_back_lem : (c p i : ℕ) → c ≤ 8 → FreeBack (free.chunk_outcome w s P c p i)

@@ -11,7 +11,7 @@ ghost use Rattle.alloc_sound.specs.Mirror.{alloc_outcome, alloc_slice};
 ghost use Rattle.free_sound.specs.Mirror.{free_outcome, free_slice};
 ghost use Rattle.serve.specs.Mirror.{served_word, served_slice, served_words, served_all, allocated_in, freed_in};
 
-use answers::{Allocated, Freed, Offset, Refusal};
+use answers::{Offset, Refusal};
 
 // One in the upper half of a word, which says what is asked; the lower half has the size or the offset.
 const HALF: u64 = 4294967296;
@@ -33,11 +33,8 @@ pub fn serve_all(pool: &mut [u8], w: u8, pages: u16, requests: &[u64], answers: 
     ensures pool { pool.new ≡ served_all w pages pool.old requests.now }
     ensures answers { answers.new ≡ served_words w pages pool.old requests.now ++ drop (length requests.now) answers.old }
 {
-    let mut i = 0;
-    while i < requests.len() {
-        let word = requests[i];
-        answers[i] = serve(pool, w, pages, word);
-        i += 1;
+    for i in 0..requests.len() {
+        answers[i] = serve(pool, w, pages, requests[i]);
     }
 }
 
@@ -77,7 +74,7 @@ fn serve_free(pool: &mut [u8], w: u8, pages: u16, offset: u32) -> u64
 // ---- a list of one
 
 // Takes a block of at least `size` bytes (SPEC 4.4).
-pub fn alloc_sound(pool: &mut [u8], w: u8, pages: u16, size: u32) -> Allocated
+pub fn alloc_sound(pool: &mut [u8], w: u8, pages: u16, size: u32) -> Result<Offset, Refusal>
     requires { Whole w pool.old pages }
     ensures answer { of_alloc result ≡ alloc_outcome w pool.old pages size }
     ensures slice { pool.new ≡ alloc_slice w pool.old pages size }
@@ -87,7 +84,7 @@ pub fn alloc_sound(pool: &mut [u8], w: u8, pages: u16, size: u32) -> Allocated
 }
 
 // Gives back the block that begins at the offset (SPEC 4.7): its bytes, or the refusal.
-pub fn free_sound(pool: &mut [u8], w: u8, pages: u16, at: Offset) -> Freed
+pub fn free_sound(pool: &mut [u8], w: u8, pages: u16, at: Offset) -> Result<u32, Refusal>
     requires { Whole w pool.old pages }
     ensures answer { of_free result ≡ free_outcome w pool.old pages at.0 }
     ensures slice { pool.new ≡ free_slice w pool.old pages at.0 }
@@ -115,31 +112,31 @@ const OUTSIDE: u64 = 360287970189639680;
 
 const NOT_TAKEN: u64 = 432345564227567616;
 
-fn allocated_in(x: u64) -> Allocated
+fn allocated_in(x: u64) -> Result<Offset, Refusal>
     ensures { of_alloc result ≡ allocated_in x }
 {
     if x < HALF {
-        return Allocated::At(Offset(x as u32));
+        return Ok(Offset(x as u32));
     }
     if x == NOTHING_ASKED {
-        Allocated::Refused(Refusal::NothingAsked)
+        Err(Refusal::NothingAsked)
     } else {
-        Allocated::Refused(Refusal::NoRoom)
+        Err(Refusal::NoRoom)
     }
 }
 
-fn freed_in(x: u64) -> Freed
+fn freed_in(x: u64) -> Result<u32, Refusal>
     ensures { of_free result ≡ freed_in x }
 {
     if x < HALF {
-        return Freed::Bytes(x as u32);
+        return Ok(x as u32);
     }
     if x == OUTSIDE {
-        return Freed::Refused(Refusal::Outside);
+        return Err(Refusal::Outside);
     }
     if x == NOT_TAKEN {
-        Freed::Refused(Refusal::NotTaken)
+        Err(Refusal::NotTaken)
     } else {
-        Freed::Refused(Refusal::NotAStart)
+        Err(Refusal::NotAStart)
     }
 }

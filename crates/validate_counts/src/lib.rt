@@ -31,12 +31,10 @@ fn all_counts(pool: &[u8], w: u8, n: usize, t: &[u64; 11]) -> bool
     requires { Scanned w pool.now n t.now }
     ensures { result ≡ all_below (counts_fit (fields_of w pool.now) n) 9 }
 {
-    let mut c: u8 = 0;
-    while c < 9 {
+    for c in 0..9 {
         if !class_counts(pool, w, n, t, c) {
             return false;
         }
-        c += 1;
     }
     true
 }
@@ -63,12 +61,10 @@ fn peak_fits(pool: &[u8], w: u8, c: u8) -> bool
 fn all_peaks(pool: &[u8], w: u8) -> bool
     ensures { result ≡ all_below (peak_fits w pool.now) 9 }
 {
-    let mut c: u8 = 0;
-    while c < 9 {
+    for c in 0..9 {
         if !peak_fits(pool, w, c) {
             return false;
         }
-        c += 1;
     }
     true
 }

@@ -11,7 +11,7 @@ use records::{CLASS_WORD, HEADER, MOST_PAGES, PAGE_AND_RECORD};
 pub fn page_count(w: u8, len: usize) -> usize
     ensures { result ≡ page_count w len }
 {
-    branchless::minus(len, HEADER + CLASS_WORD * w as usize) / PAGE_AND_RECORD
+    len.saturating_sub(HEADER + CLASS_WORD * w as usize) / PAGE_AND_RECORD
 }
 
 pub fn header_fits(pool: &[u8], w: u8, n: usize) -> bool
@@ -19,16 +19,16 @@ pub fn header_fits(pool: &[u8], w: u8, n: usize) -> bool
     ensures { result ≡ rule1 w pool.now }
 {
     let h = record_header::get_header(pool);
-    let edition = branchless::minus(w as usize, 1);
+    let edition = (w as usize).saturating_sub(1);
     let least = HEADER + CLASS_WORD * w as usize + PAGE_AND_RECORD;
     let len = pool.len();
     // The page count is compared first: past it the compiler knows page numbers to be small.
-    branchless::all6(
+    branchless::all([
         h.pages as usize == n,
         least <= len,
         n <= MOST_PAGES,
         h.edition as usize == edition,
         h.min_shift == 3,
         h.page_shift == 12,
-    )
+    ])
 }

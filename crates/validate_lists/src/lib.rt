@@ -17,7 +17,7 @@ pub fn free_list(pool: &[u8], w: u8, n: usize, t: &[u64; 11]) -> bool
 {
     let h = record_header::get_header(pool);
     let heads = validate_totals::middle(t, FREE) as usize;
-    validate_walk::follow(pool, w, n, 0, heads, PageNumber(h.first_run.0))
+    validate_walk::follow(pool, w, n, 0, heads, h.first_run)
 }
 
 // As many pages are on the list of class c as have a clear mark.
@@ -27,19 +27,17 @@ fn class_list(pool: &[u8], w: u8, n: usize, t: &[u64; 11], c: u8) -> bool
 {
     let r = record_class::get_class(pool, w, c);
     let open = validate_totals::high(t, c as usize) as usize;
-    validate_walk::follow(pool, w, n, 1 + c, open, PageNumber(r.first.0))
+    validate_walk::follow(pool, w, n, 1 + c, open, r.first)
 }
 
 fn class_lists(pool: &[u8], w: u8, n: usize, t: &[u64; 11]) -> bool
     requires { Scanned w pool.now n t.now }
     ensures { result ≡ all_below (class_list (fields_of w pool.now) n) 9 }
 {
-    let mut c: u8 = 0;
-    while c < 9 {
+    for c in 0..9 {
         if !class_list(pool, w, n, t, c) {
             return false;
         }
-        c += 1;
     }
     true
 }

@@ -1,7 +1,6 @@
 -- The counters after one page more.
 use Rattle.std.proofs.Common.{◌≡◌, ℕ, zero, suc, ◌+◌, ◌*◌, ◌^◌, ◌<◌, ◌≤◌, Bool, true, false, not, eqb, ltb, ◌≢◌, ◌⊎◌, List, length, get_or, sym, refl, ap, ◌∙◌, inl, inr, suc-mul, add-one, arith, length-set, get_or-set_other, get_or-set_same, eq-eqb, ne_eqb, leb-true}
 use mathlib.Core.Bool.{false≢true}
-use borrow.Author.Tests.{not-false}
 use Rattle.base.specs.Tests.{pick, all_of, all_below}
 use Rattle.base.specs.Count.{bit, sum, count}
 use Rattle.base.proofs.Cases.{eq?}

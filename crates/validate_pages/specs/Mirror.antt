@@ -1,6 +1,6 @@
 -- What one pass over the pages counts, in eleven counters: nine for the classes, one for free pages, one for faults.
 -- A counter holds up to three counts side by side, so that a page of a class is one addition: from bit 0, from bit 32 and from bit 48 on.
-use Rattle.std.specs.Prelude.{◌≡◌, ℕ, zero, suc, ◌+◌, ◌-◌, ◌*◌, ◌%◌, ◌^◌, ◌<◌, ◌≤◌, Bool, true, false, not, List, length, set, ◌==◌, nat_le, nat_lt, slice_index, slice_set}
+use Rattle.std.specs.Prelude.{◌≡◌, ℕ, zero, suc, ◌+◌, ◌-◌, ◌*◌, ◌%◌, ◌^◌, ◌<◌, ◌≤◌, Bool, true, false, not, List, length, ◌==◌, nat_le, nat_lt, slice_index, slice_set}
 use Rattle.base.specs.Tests.{pick}
 use Rattle.base.specs.Count.{bit, sum, count}
 use Rattle.records.specs.Layout.{no_page}

@@ -27,7 +27,7 @@ pub fn add_at(t: &mut [u64; 11], j: usize, x: u64)
     requires { j < 11 }
     ensures { t.new ≡ add_at t.old j x }
 {
-    t[j] = std::num::wrapping_add_u64(t[j], x);
+    t[j] = t[j].wrapping_add(x);
 }
 
 // The set marks of page p of n, which has class c. A map in the record is read as `validate_slabs` reads it, so that the two are one load.
@@ -50,7 +50,7 @@ pub fn class_weight(c: u8, ones: usize) -> u64
 {
     let own = classes::own_count(c);
     let chunks = classes::class_chunks(c);
-    let used = branchless::minus(ones, own as usize) as u64;
+    let used = ones.saturating_sub(own as usize) as u64;
     let open = branchless::one_if(ones < chunks as usize);
     used + SECOND + THIRD * open
 }
@@ -73,7 +73,7 @@ pub fn class_fault(c: u8, ones: usize, v: u64) -> u64
     let l = record_page::unpack_links(v);
     let own = classes::own_count(c);
     let unused = branchless::one_if(ones <= own as usize);
-    let stray = branchless::one_if(strays_of(c, ones, PageNumber(l.next.0), PageNumber(l.prev.0)));
+    let stray = branchless::one_if(strays_of(c, ones, l.next, l.prev));
     unused + SECOND * stray
 }
 

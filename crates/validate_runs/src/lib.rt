@@ -32,12 +32,10 @@ fn plain_from(pool: &[u8], w: u8, start: usize, count: usize, v: u64) -> bool
     requires { start + count ≤ 65536 }
     ensures { result ≡ plain_from w pool.now v start count }
 {
-    let mut i = 0;
-    while i < count {
+    for i in 0..count {
         if !plain_at(pool, w, start + i, v) {
             return false;
         }
-        i += 1;
     }
     true
 }
@@ -49,7 +47,7 @@ fn begins_run(pool: &[u8], w: u8, n: usize, p: PageNumber, v: u64) -> bool
     let l = record_page::unpack_links(v);
     let k = l.run as usize;
     let map = validate_fields::map_of(pool, w, p);
-    branchless::all4(l.class == 0, map == 0, 0 < k, p.0 as usize + k <= n)
+    branchless::all([l.class == 0, map == 0, 0 < k, p.0 as usize + k <= n])
 }
 
 // Whether no free page stands at x.
@@ -82,13 +80,7 @@ fn free_inside(pool: &[u8], w: u8, p: PageNumber, k: usize) -> bool
     ensures { result ≡ free_inside w pool.now p.0 k }
 {
     if last_plain(pool, w, p, k) {
-        plain_from(
-            pool,
-            w,
-            p.0 as usize + 1,
-            branchless::minus(k, 2),
-            FREE_LINKS,
-        )
+        plain_from(pool, w, p.0 as usize + 1, k.saturating_sub(2), FREE_LINKS)
     } else {
         false
     }
@@ -149,7 +141,7 @@ pub fn taken_whole(pool: &[u8], w: u8, n: usize, p: PageNumber, v: u64) -> bool
 {
     let l = record_page::unpack_links(v);
     let begins = begins_run(pool, w, n, p, v);
-    if branchless::all3(begins, l.next.0 == NO_PAGE, l.prev.0 == NO_PAGE) {
+    if branchless::all([begins, l.next.0 == NO_PAGE, l.prev.0 == NO_PAGE]) {
         taken_rest(pool, w, n, p, l.run as usize)
     } else {
         false

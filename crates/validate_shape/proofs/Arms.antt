@@ -1,11 +1,11 @@
 -- When a run is walked, and the answers by kind.
 use mathlib.Core.Path.{◌≡◌, refl, sym, ◌∙◌}
 use mathlib.Core.Logic.{◌≢◌}
-use mathlib.Core.Bool.{Bool, true, false, not, true≢false}
+use mathlib.Core.Bool.{Bool, true, false, true≢false}
 use Prim.Native.Nat.{ℕ, zero, suc, ◌+◌, ◌-◌, ◌≤◌, ◌<◌}
 use lib.Dec.{leb, ltb}
 use borrow.Author.Rules.{rules}
-use borrow.Author.Tests.{ltb-true, leb-true, not-true, not-false}
+use borrow.Author.Tests.{ltb-true, leb-true}
 use Rattle.base.specs.Tests.{pick, all_of, all_below}
 use Rattle.base.proofs.Tests.{both_true}
 use Rattle.rules.specs.Fields.{Fields}

@@ -1,9 +1,8 @@
 -- What a well-shaped page lets the pass add.
 use mathlib.Core.Path.{◌≡◌, refl, sym, ap, ◌∙◌}
-use mathlib.Core.Bool.{Bool, false, not, true}
+use mathlib.Core.Bool.{Bool, true}
 use mathlib.Core.List.{List}
 use Prim.Native.Nat.{ℕ, ◌≤◌}
-use borrow.Author.Tests.{not-false}
 use Rattle.words.specs.Word.{word}
 use Rattle.records.specs.Layout.{links_place}
 use Rattle.records.specs.declared.Links.{Links}

@@ -27,12 +27,10 @@ fn all_kind(pool: &[u8], w: u8, start: usize, want: u8, count: usize) -> bool
     requires { start + count ≤ 65536 }
     ensures { result ≡ all_below (kind_from (fields_of w pool.now) start want) count }
 {
-    let mut i = 0;
-    while i < count {
+    for i in 0..count {
         if !kind_is(pool, w, start + i, want) {
             return false;
         }
-        i += 1;
     }
     true
 }
@@ -51,7 +49,7 @@ fn run_fits(pool: &[u8], w: u8, n: usize, p: usize, k: usize, inner: u8) -> bool
 fn kind_before(pool: &[u8], w: u8, p: PageNumber) -> u8
     ensures { result ≡ kind (fields_of w pool.now) (p.0 - 1) }
 {
-    let q = branchless::minus(p.0 as usize, 1) as u16;
+    let q = (p.0 as usize).saturating_sub(1) as u16;
     validate_fields::kind_of(pool, w, PageNumber(q))
 }
 
@@ -61,13 +59,13 @@ fn inside_free(pool: &[u8], w: u8, p: PageNumber) -> bool
     let l = validate_fields::links_of(pool, w, p);
     let map = validate_fields::map_of(pool, w, p);
     let before = kind_before(pool, w, p);
-    branchless::all5(
+    branchless::all([
         l.class == 0,
         l.run == 0,
         map == 0,
         0 < p.0,
         before <= FIRST_FREE,
-    )
+    ])
 }
 
 fn first_free(pool: &[u8], w: u8, n: usize, p: PageNumber) -> bool
@@ -80,7 +78,7 @@ fn first_free(pool: &[u8], w: u8, n: usize, p: PageNumber) -> bool
     let at = p.0 as usize;
     let fits = run_fits(pool, w, n, at, k, INSIDE_FREE);
     let ends = validate_runs::ends_free(pool, w, n, at + k);
-    branchless::all4(l.class == 0, map == 0, fits, ends)
+    branchless::all([l.class == 0, map == 0, fits, ends])
 }
 
 fn first_taken(pool: &[u8], w: u8, n: usize, p: PageNumber) -> bool
@@ -93,7 +91,7 @@ fn first_taken(pool: &[u8], w: u8, n: usize, p: PageNumber) -> bool
     let at = p.0 as usize;
     let fits = run_fits(pool, w, n, at, k, INSIDE_TAKEN);
     let ends = validate_runs::ends_taken(pool, w, n, at + k);
-    branchless::all4(l.class == 0, map == 0, fits, ends)
+    branchless::all([l.class == 0, map == 0, fits, ends])
 }
 
 fn inside_taken(pool: &[u8], w: u8, p: PageNumber) -> bool
@@ -102,13 +100,13 @@ fn inside_taken(pool: &[u8], w: u8, p: PageNumber) -> bool
     let l = validate_fields::links_of(pool, w, p);
     let map = validate_fields::map_of(pool, w, p);
     let before = kind_before(pool, w, p);
-    branchless::all5(
+    branchless::all([
         l.class == 0,
         l.run == 0,
         map == 0,
         0 < p.0,
         CLASS_PAGE < before,
-    )
+    ])
 }
 
 fn of_kind(pool: &[u8], w: u8, n: usize, p: PageNumber, kind: u8) -> bool
@@ -172,15 +170,13 @@ pub fn scan(pool: &[u8], w: u8, n: usize, t: &mut [u64; 11]) -> bool
     ensures answer { result ≡ shape (fields_of w pool.now) n }
     ensures counters { result ≡ true → Counted (fields_of w pool.now) n n t.new }
 {
-    let mut p = 0;
-    while p < n {
-        let at = p as u16;
-        if !page_shaped(pool, w, n, PageNumber(at)) {
+    for p in 0..n {
+        let at = PageNumber(p as u16);
+        if !page_shaped(pool, w, n, at) {
             return false;
         }
-        let v = validate_fields::packed_links(pool, w, PageNumber(at));
-        add_page(pool, w, n, PageNumber(at), v, t);
-        p += 1;
+        let v = validate_fields::packed_links(pool, w, at);
+        add_page(pool, w, n, at, v, t);
     }
     true
 }

@@ -1,7 +1,7 @@
 -- One step of a walk, from the facts that the tests give.
 use mathlib.Core.Path.{◌≡◌, refl, sym, ◌∙◌}
 use mathlib.Core.Bool.{Bool, true, false}
-use Prim.Native.Nat.{ℕ, zero, suc, ◌-◌, ◌≤◌, ◌<◌}
+use Prim.Native.Nat.{ℕ, zero, suc, ◌≤◌, ◌<◌}
 use native.Mathlib.Omega.{arith}
 use lib.Dec.{eqb}
 use Rattle.base.specs.Tests.{pick}
@@ -26,13 +26,9 @@ module _ (good : ℕ → Bool) (nx pv : ℕ → ℕ) {X : Bool} (b h k : ℕ) (i
       go zero l = absurd (omega arith)
       go (suc j) l = rw (sym p ∙ q, sym r ∙ e)
 
-  pub at_on : 0 < k → (t u : Bool) (h' : ℕ) → t ≡ good h → t ≡ true → u ≡ eqb (pv h) b → u ≡ true → h' ≡ nx h → X ≡ linked good nx pv (k - 1) h h'
+  pub at_on : (m : ℕ) → k ≡ suc m → (t u : Bool) (h' : ℕ) → t ≡ good h → t ≡ true → u ≡ eqb (pv h) b → u ≡ true → h' ≡ nx h → X ≡ linked good nx pv m h h'
   unfolding linked pick
-  at_on l t u h' p q r e x = i ∙ go k l
-    where
-      go : (j : ℕ) → 0 < j → linked good nx pv j b h ≡ linked good nx pv (j - 1) h h'
-      go zero l = absurd (omega arith)
-      go (suc j) l = let z : suc j - 1 ≡ j = omega arith in rw (z, sym p ∙ q, sym r ∙ e, x)
+  at_on m l t u h' p q r e x = i ∙ rw (l, sym p ∙ q, sym r ∙ e, x)
 
   pub at-end : k ≤ 0 → eqb h no_page ≡ X
   unfolding linked

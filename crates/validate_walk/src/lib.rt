@@ -17,7 +17,7 @@ fn next_of(pool: &[u8], w: u8, p: PageNumber) -> PageNumber
     ensures { result.0 ≡ next (fields_of w pool.now) p.0 }
 {
     let l = validate_fields::links_of(pool, w, p);
-    PageNumber(l.next.0)
+    l.next
 }
 
 fn leads_back(pool: &[u8], w: u8, p: PageNumber, before: PageNumber) -> bool
@@ -85,8 +85,7 @@ pub fn follow(pool: &[u8], w: u8, n: usize, list: u8, count: usize, first: PageN
 {
     let mut before = PageNumber(NO_PAGE);
     let mut at = first;
-    let mut left = count;
-    while 0 < left {
+    for _ in 0..count {
         if !on_list(pool, w, n, list, at) {
             return false;
         }
@@ -95,7 +94,6 @@ pub fn follow(pool: &[u8], w: u8, n: usize, list: u8, count: usize, first: PageN
         }
         before = at;
         at = next_of(pool, w, at);
-        left -= 1;
     }
     at.0 == NO_PAGE
 }

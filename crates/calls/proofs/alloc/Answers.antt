@@ -1,18 +1,22 @@
-use native.Mathlib.Omega.{arith}
+use mathlib.Core.Path.{refl, ap, ◌∙◌}
+use borrow.Author.Tests.{ne_eqb}
+use Rattle.answers.specs.Outcome.{refused, of_alloc}
+use Rattle.answers.proofs.Results.{passed_on}
 use Rattle.model.specs.Calls.{Alloc}
-use Rattle.demands.proofs.Steps.{refused-unsound, whole-told, alloc_steps}
+use Rattle.demands.proofs.Steps.{refused-unsound}
+use Rattle.sound_pools.proofs.Validated.{whole, alloc_does}
 use Rattle.calls.proofs.alloc.Goals as goal
 
-pub returns-then-not-validate : goal.returns-then-not-validate
-returns-then-not-validate c =
-    let all = refused-unsound c.args.w c.args.pool.now c.validate.result c.validate.ensures (Alloc c.args.size) c.if-not-validate.true in
-    record { answer = all.0; slice = all.1 }
+pub returns-in_err-pages : goal.returns-in_err-pages
+returns-in_err-pages c =
+    let u = c.in_err-pages.ensures.unsound in
+    let all = refused-unsound c.args.w c.args.pool.now _ refl (Alloc c.args.size) (ne_eqb _ _ u.0) in
+    record { answer = ap of_alloc (passed_on _ c.from_residual.ensures.1) ∙ ap refused u.1 ∙ all.0; slice = all.1 }
 
 pub alloc_sound-requires : goal.alloc_sound-requires
-alloc_sound-requires c = whole-told c.args.w c.args.pool.now c.validate.result c.validate.ensures c.requires (omega arith) (λ i. (c.slice_known-1.given i).fits) c.if-not-validate.false
-    c.pages_in-pages.result c.pages_in-pages.ensures
+alloc_sound-requires c = whole c.in_ok-pages.ensures.sound
 
 pub returns : goal.returns
 returns c =
-    let all = alloc_steps c.args.w c.args.pool.now c.validate.result c.validate.ensures c.requires (omega arith) (λ i. (c.slice_known-1.given i).fits) c.if-not-validate.false c.pages_in-pages.result c.pages_in-pages.ensures c.args.size _ c.alloc_sound.new.pool c.alloc_sound.ensures.answer c.alloc_sound.ensures.slice in
-    record { answer = all.0; slice = all.1 }
+    let all = alloc_does c.in_ok-pages.ensures.sound c.args.size in
+    record { answer = c.alloc_sound.ensures.answer ∙ all.0; slice = c.alloc_sound.ensures.slice ∙ all.1 }

@@ -1,21 +1,15 @@
-use borrow.Author.Rules.{rules}
-use mathlib.Core.Path.{◌≡◌}
-use mathlib.Core.Bool.{true}
-use Prim.Native.Nat.{◌-◌, ◌≤◌}
-use Rattle.base.specs.Tests.{all_below}
-use Rattle.rules.specs.Bytes.{fields_of}
-use Rattle.mending.specs.Checked.{same_page_at}
+use native.Mathlib.Omega.{arith}
 use Rattle.branchless.proofs.Loops.{all_none, all_more, all-fails, all_done}
 use Rattle.check_mended.proofs.same_pages.Goals as goal
 
 pub loop-p-init : goal.loop-p-init
-loop-p-init c = (search rules, all_none _)
+loop-p-init c = all_none _
 
 pub returns-then-not-same_page : goal.returns-then-not-same_page
 returns-then-not-same_page c = all-fails _ _ _ _ c.loop-p-test.true c.same_page.ensures c.if-not-same_page.true
 
 pub loop-p-preserved : goal.loop-p-preserved
-loop-p-preserved c = (search rules, all_more _ _ _ c.same_page.ensures c.if-not-same_page.false c.loop-p.invariant.1)
+loop-p-preserved c = all_more _ _ _ c.same_page.ensures c.if-not-same_page.false c.loop-p.invariant
 
 pub returns : goal.returns
-returns c = all_done _ _ _ c.loop-p.invariant.0 c.loop-p-test.false c.loop-p.invariant.1
+returns c = all_done _ _ _ (omega arith) c.loop-p-test.false c.loop-p.invariant

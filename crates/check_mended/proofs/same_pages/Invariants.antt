@@ -1,15 +1,9 @@
-use borrow.Author.Rules.{rules}
 use mathlib.Core.Path.{◌≡◌}
 use mathlib.Core.Bool.{true}
-use Prim.Native.Nat.{◌-◌, ◌≤◌}
 use Rattle.base.specs.Tests.{all_below}
 use Rattle.rules.specs.Bytes.{fields_of}
 use Rattle.mending.specs.Checked.{same_page_at}
-use Rattle.branchless.proofs.Loops.{all_none, all_more, all-fails, all_done}
 use Rattle.check_mended.proofs.same_pages.Given as goal
 
 abbrev pub invariant-loop-p : goal.invariant-loop-p
-invariant-loop-p l = (l.p ≤ l.n) × (all_below (same_page_at (fields_of l.w l.s) (fields_of l.w l.t)) l.p ≡ true)
-
-abbrev pub decreases-loop-p : goal.decreases-loop-p
-decreases-loop-p l = l.n - l.p
+invariant-loop-p l = all_below (same_page_at (fields_of l.w l.s) (fields_of l.w l.t)) l.p ≡ true

@@ -4,4 +4,4 @@ use Rattle.check_mended.proofs.same_record.Goals as goal
 
 pub returns : goal.returns
 unfolding same_record
-returns c = rw c.all4-same.ensures at c.choose.ensures
+returns c = rw c.all-same.ensures at c.choose.ensures

@@ -1,4 +1,4 @@
 use Rattle.chunk_free.proofs.drop_page.Goals as goal
 
 pub returns : goal.returns
-returns c = rw (c.clear_mark_in.ensures, c.release.ensures, c.delist.ensures) at c.count_page_back.ensures
+returns c = rw (c.put_mark_in.ensures, c.release.ensures, c.delist.ensures) at c.count_page_back.ensures

@@ -1,5 +1,4 @@
 use Rattle.chunks.specs.Mirror.{delisted}
-use borrow.Author.Rules.{rules}
 use Rattle.class_lists.proofs.delist.Goals as goal
 
 pub returns : goal.returns

@@ -1,5 +1,4 @@
 use Rattle.chunks.specs.Mirror.{enlisted}
-use borrow.Author.Rules.{rules}
 use Rattle.class_lists.proofs.enlist.Goals as goal
 
 pub returns : goal.returns

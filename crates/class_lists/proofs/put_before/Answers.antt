@@ -1,5 +1,4 @@
 use Rattle.chunks.specs.Mirror.{set_before}
-use borrow.Author.Rules.{rules}
 use Rattle.class_lists.proofs.put_before.Goals as goal
 
 pub returns : goal.returns

@@ -1,7 +1,6 @@
 use mathlib.Core.Path.{ap}
 use Rattle.records.specs.declared.Links.{Links}
 use Rattle.chunks.specs.Mirror.{set_aside}
-use borrow.Author.Rules.{rules}
 use Rattle.class_lists.proofs.set_aside.Goals as goal
 
 pub returns-clause-answer : goal.returns-clause-answer

@@ -1,22 +1,17 @@
-use mathlib.Core.Path.{◌≡◌, refl}
-use Prim.Native.Nat.{◌-◌, ◌≤◌}
-use lib.ListN.{length}
-use borrow.Author.Rules.{rules}
-use Rattle.sound_pools.specs.Sound.{Validated}
+use mathlib.Core.Path.{refl}
 use Rattle.sound_pools.proofs.Validated.{whole}
-use Rattle.free_all.proofs.Each.{Left, left_end, left-next}
+use Rattle.free_all.proofs.Each.{left_end, left-next}
 use Rattle.free_all.proofs.free_each.Goals as goal
 
-pub loop-i-init : goal.loop-i-init
-loop-i-init c = (search rules, refl, c.requires, refl)
+pub loop-x-init : goal.loop-x-init
+loop-x-init c = (c.requires, refl)
 
 pub free_sound-requires : goal.free_sound-requires
-free_sound-requires c = whole c.loop-i.invariant.2
+free_sound-requires c = whole c.loop-x.invariant.0
 
-pub loop-i-preserved : goal.loop-i-preserved
-loop-i-preserved c = let l = c.loop-i in
-    let next = left-next _ _ _ _ _ _ _ _ l.invariant.2 c.loop-i-test.true refl c.free_sound.ensures.slice l.invariant.3 in
-    (search rules, search rules, next.0, next.1)
+pub loop-x-preserved : goal.loop-x-preserved
+loop-x-preserved c = let i = c.loop-x.invariant in
+    left-next _ _ _ _ _ _ _ _ i.0 c.loop-x-test.true refl c.free_sound.ensures.slice i.1
 
 pub returns : goal.returns
-returns c = left_end _ _ _ _ _ c.loop-i-test.false c.loop-i.invariant.3
+returns c = left_end _ _ _ _ _ c.loop-x-test.false c.loop-x.invariant.1

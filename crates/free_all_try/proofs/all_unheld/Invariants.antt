@@ -1,12 +1,8 @@
 use mathlib.Core.Path.{◌≡◌}
 use mathlib.Core.Bool.{true}
-use Prim.Native.Nat.{◌-◌, ◌≤◌}
 use Rattle.base.specs.Tests.{all_below}
 use Rattle.free_all_try.specs.Mirror.{unheld_at}
 use Rattle.free_all_try.proofs.all_unheld.Given as goal
 
 abbrev pub invariant-loop-i : goal.invariant-loop-i
-invariant-loop-i l = (l.i ≤ l.n) × (all_below (unheld_at l.pool l.base l.owned) l.i ≡ true)
-
-abbrev pub decreases-loop-i : goal.decreases-loop-i
-decreases-loop-i l = l.n - l.i
+invariant-loop-i l = all_below (unheld_at l.pool l.base l.owned) l.i ≡ true

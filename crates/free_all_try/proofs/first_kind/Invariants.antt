@@ -4,6 +4,3 @@ use Rattle.free_all_try.proofs.first_kind.Given as goal
 
 abbrev pub invariant-loop-i : goal.invariant-loop-i
 invariant-loop-i l = first_kind l.w l.pool l.i ≡ first_kind l.w l.pool l.p
-
-abbrev pub decreases-loop-i : goal.decreases-loop-i
-decreases-loop-i l = l.i

@@ -5,6 +5,3 @@ returns-in-Chunk c = rw c.in-Chunk.is c.try_chunk.ensures
 
 pub returns-in-Run : goal.returns-in-Run
 returns-in-Run c = rw c.in-Run.is c.try_run.ensures
-
-pub returns-in-Refused : goal.returns-in-Refused
-returns-in-Refused c = rw c.in-Refused.is c.try_refused.ensures

@@ -1,13 +1,15 @@
-use Rattle.free_all_try.specs.Mirror.{refused_tried}
-use mathlib.Core.Path.{sym, ◌∙◌}
-use borrow.Author.Tests.{eq-eqb, ne_eqb}
+use mathlib.Core.Path.{sym, ap, ◌∙◌}
+use borrow.Author.Tests.{eq-eqb}
 use Rattle.base.proofs.AllBelow.{pick_yes, pick_no}
+use Rattle.answers.specs.Outcome.{number_of}
+use Rattle.answers.proofs.Refusals.{only-seven}
+use Rattle.free_all_try.specs.Mirror.{refused_tried}
 use Rattle.free_all_try.proofs.try_refused.Goals as goal
 
-pub returns-then-number-eq7 : goal.returns-then-number-eq7
+pub returns-in-NotAStart : goal.returns-in-NotAStart
 unfolding refused_tried
-returns-then-number-eq7 c = c.off_start.ensures ∙ sym (pick_yes _ _ _ (eq-eqb _ _ (sym c.number.ensures ∙ c.if-number-eq7.true)))
+returns-in-NotAStart c = c.off_start.ensures ∙ sym (pick_yes _ _ _ (eq-eqb _ _ (ap number_of c.in-NotAStart.is)))
 
-pub returns-else-number-eq7 : goal.returns-else-number-eq7
+pub returns-in_default : goal.returns-in_default
 unfolding refused_tried
-returns-else-number-eq7 c = sym (pick_no _ _ _ (ne_eqb _ _ (λ e. c.if-number-eq7.false (c.number.ensures ∙ e))))
+returns-in_default c = sym (pick_no _ _ _ (only-seven _ c.in_default.not-NotAStart))

@@ -1,27 +1,13 @@
-use mathlib.Core.Path.{refl}
-use borrow.Author.Rules.{rules}
 use Rattle.free_sound.proofs.give.Goals as goal
 
 pub returns-in-Chunk-clause-answer : goal.returns-in-Chunk-clause-answer
-returns-in-Chunk-clause-answer c = rw c.in-Chunk.is
-    (c.give_chunk.ensures.answer)
+returns-in-Chunk-clause-answer c = rw c.in-Chunk.is c.give_chunk.ensures.answer
 
 pub returns-in-Chunk-clause-slice : goal.returns-in-Chunk-clause-slice
-returns-in-Chunk-clause-slice c = rw c.in-Chunk.is
-    (c.give_chunk.ensures.slice)
+returns-in-Chunk-clause-slice c = rw c.in-Chunk.is c.give_chunk.ensures.slice
 
 pub returns-in-Run-clause-answer : goal.returns-in-Run-clause-answer
-returns-in-Run-clause-answer c = rw c.in-Run.is
-    (c.give_run.ensures.answer)
+returns-in-Run-clause-answer c = rw c.in-Run.is c.give_run.ensures.answer
 
 pub returns-in-Run-clause-slice : goal.returns-in-Run-clause-slice
-returns-in-Run-clause-slice c = rw c.in-Run.is
-    (c.give_run.ensures.slice)
-
-pub returns-in-Refused-clause-answer : goal.returns-in-Refused-clause-answer
-returns-in-Refused-clause-answer c = rw c.in-Refused.is
-    (refl)
-
-pub returns-in-Refused-clause-slice : goal.returns-in-Refused-clause-slice
-returns-in-Refused-clause-slice c = rw c.in-Refused.is
-    (refl)
+returns-in-Run-clause-slice c = rw c.in-Run.is c.give_run.ensures.slice

@@ -3,9 +3,6 @@ use native.Mathlib.Omega.{arith}
 use borrow.Author.Rules.{rules}
 use Rattle.free_sound.proofs.give_run.Goals as goal
 
-pub overflow_mul-bytes : goal.overflow_mul-bytes
-overflow_mul-bytes c = omega arith
-
 pub returns-clause-answer : goal.returns-clause-answer
 returns-clause-answer c = refl
 

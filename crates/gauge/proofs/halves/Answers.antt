@@ -1,6 +1,5 @@
 use lib.Ieee as Ieee
 use mathlib.Core.Path.{refl}
-use borrow.Author.Rules.{rules}
 use Rattle.gauge.specs.Gauge.{halves}
 use Rattle.gauge.proofs.halves.Goals as goal
 

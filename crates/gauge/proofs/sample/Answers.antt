@@ -1,6 +1,5 @@
 use mathlib.Core.Path.{refl, sym, ◌∙◌}
 use Rattle.base.specs.Tests.{pick}
-use borrow.Author.Rules.{rules}
 use Rattle.gauge.specs.Gauge.{sample_outcome, sampled}
 use Rattle.gauge.proofs.Samples.{begun-few, takes-few}
 use Rattle.gauge.proofs.sample.Goals as goal

@@ -1,6 +1,5 @@
 use mathlib.Core.Path.{refl, sym, ◌∙◌}
 use Rattle.base.specs.Tests.{pick}
-use borrow.Author.Rules.{rules}
 use Rattle.gauge.specs.Gauge.{start_outcome, started}
 use Rattle.gauge.proofs.start.Goals as goal
 

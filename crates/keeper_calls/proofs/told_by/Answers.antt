@@ -4,4 +4,4 @@ use Rattle.keeper_calls.proofs.told_by.Goals as goal
 
 pub returns : goal.returns
 unfolding place_of
-returns c = rw (c.len_of-len.ensures, c.off_of.ensures)
+returns c = rw (c.len_of.ensures, c.off_of.ensures)

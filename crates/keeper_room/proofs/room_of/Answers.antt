@@ -6,6 +6,3 @@ returns-in-Chunk c = rw c.in-Chunk.is c.chunk_room.ensures
 
 pub returns-in-Run : goal.returns-in-Run
 returns-in-Run c = rw c.in-Run.is refl
-
-pub returns-in-Refused : goal.returns-in-Refused
-returns-in-Refused c = rw c.in-Refused.is refl

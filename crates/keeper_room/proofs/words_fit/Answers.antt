@@ -1,28 +1,17 @@
-use mathlib.Core.Path.{sym, ◌∙◌}
-use native.Mathlib.Omega.{arith}
-use Rattle.keeper_words.proofs.Search.{told_none, told_more, each-fails, each_all}
+use mathlib.Core.Path.{◌≡◌}
+use mathlib.Core.Bool.{true, false}
+use borrow.Author.Rules.{rules}
+use borrow.Author.Tests.{tests}
+use Rattle.std.proofs.lemmas.Iterator.{YieldsList-from_slice, cases_from_all}
+use Rattle.rules.specs.Bytes.{read}
+use Rattle.keeper_model.specs.Directory.{entry_ok}
+use Rattle.keeper_words.specs.Words.{entry_of}
+use Rattle.keeper_words.proofs.Search.{all_is}
 use Rattle.keeper_room.proofs.words_fit.Goals as goal
 
-pub loop-i-init : goal.loop-i-init
-loop-i-init c = (omega arith, told_none _ _)
-
-pub offset_bounds-directory-i : goal.offset_bounds-directory-i
-offset_bounds-directory-i c = omega arith
-
-pub bounds-directory-i : goal.bounds-directory-i
-bounds-directory-i c = omega arith
-
-pub returns-then-not-word_fits : goal.returns-then-not-word_fits
-returns-then-not-word_fits c = each-fails _ _ c.loop-i.i (omega arith) (sym c.word_fits.ensures ∙ c.if-not-word_fits.true)
-
-pub overflow_add-i : goal.overflow_add-i
-overflow_add-i c = omega arith
-
-pub loop-i-smaller : goal.loop-i-smaller
-loop-i-smaller c = omega arith
-
-pub loop-i-preserved : goal.loop-i-preserved
-loop-i-preserved c = (omega arith, told_more _ _ _ c.loop-i.invariant.1 (sym c.word_fits.ensures ∙ c.if-not-word_fits.false))
-
 pub returns : goal.returns
-returns c = each_all _ _ _ (omega arith) c.loop-i.invariant.1
+returns c =
+    let a = c.args in
+    let m = read a.w a.pool.now in
+    all_is (λ x. entry_ok m (entry_of x)) a.directory.now c.all.result
+    (cases_from_all _ _ _ (λ x. entry_ok m (entry_of x) ≡ true) (λ x. entry_ok m (entry_of x) ≡ false) c.all.ensures.ran (YieldsList-from_slice a.directory.now cc) (λ x q k. search (rules, tests)) (λ x q k. search (rules, tests)))

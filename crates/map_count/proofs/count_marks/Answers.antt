@@ -9,15 +9,15 @@ returns-then-c-gt2 c =
 
 pub returns-in-0 : goal.returns-in-0
 returns-in-0 c =
-    let all = of_8 _ _ _ (search rules) (c.ones8.ensures.answer, c.ones8.ensures.bound) in
+    let all = of_8 _ _ _ (search rules) (c.ones-in-0.ensures.answer, c.ones-in-0.ensures.bound) in
     record { answer = all.0; bound = all.1 }
 
 pub returns-in-1 : goal.returns-in-1
 returns-in-1 c =
-    let all = of_16 _ _ _ (search rules) (c.ones4.ensures.answer, c.ones4.ensures.bound) in
+    let all = of_16 _ _ _ (search rules) (c.ones-in-1.ensures.answer, c.ones-in-1.ensures.bound) in
     record { answer = all.0; bound = all.1 }
 
 pub returns-in_default : goal.returns-in_default
 returns-in_default c =
-    let all = of_32 _ _ _ (search rules) (search rules) (search rules) (c.ones2.ensures.answer, c.ones2.ensures.bound) in
+    let all = of_32 _ _ _ (search rules) (search rules) (search rules) (c.ones-in_default.ensures.answer, c.ones-in_default.ensures.bound) in
     record { answer = all.0; bound = all.1 }

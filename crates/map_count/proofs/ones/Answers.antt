@@ -1,12 +1,13 @@
+use mathlib.Core.Path.{refl}
 use native.Mathlib.Omega.{arith}
-use Rattle.map_count.proofs.Counts.{read_ones}
-use borrow.Author.Rules.{rules}
+use Rattle.base.specs.Count.{sum, count}
+use Rattle.map_count.proofs.Counts.{read_more}
 use Rattle.map_count.proofs.ones.Goals as goal
 
-pub overflow_cast-result : goal.overflow_cast-result
-overflow_cast-result c = omega (arith, read_ones _ _ _ (λ i. (c.shared_slice_known-1.given i).fits) c.requires c.get_word_in.ensures)
+pub loop-j-init : goal.loop-j-init
+unfolding count sum
+loop-j-init g c = (refl, omega arith)
 
-pub returns : goal.returns
-returns c =
-    let all = read_ones _ _ _ (λ i. (c.shared_slice_known-1.given i).fits) c.requires c.get_word_in.ensures in
-    record { answer = all.0; bound = all.1 }
+pub loop-j-preserved : goal.loop-j-preserved
+loop-j-preserved g c =
+    read_more c.args.pool.now c.args.k c.loop-j.j _ c.loop-j.n (λ i. (c.type_inv.pool i).fits) (omega arith) c.get_word_in.ensures c.loop-j.invariant.0

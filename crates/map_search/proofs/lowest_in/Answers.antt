@@ -1,5 +1,4 @@
 use native.Mathlib.Omega.{arith}
-use borrow.Author.Rules.{rules}
 use Rattle.map_search.proofs.Leading.{zeros_most, one_word}
 use Rattle.map_search.proofs.lowest_in.Goals as goal
 

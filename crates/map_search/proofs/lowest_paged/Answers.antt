@@ -1,5 +1,4 @@
 use Rattle.map_search.proofs.Leading.{first_word}
-use borrow.Author.Rules.{rules}
 use Rattle.map_search.proofs.lowest_paged.Goals as goal
 
 pub returns-then-i-lt64 : goal.returns-then-i-lt64

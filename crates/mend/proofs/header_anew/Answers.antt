@@ -12,7 +12,7 @@ pub returns : goal.returns
 returns c = let f = c.low-free.ensures ∙ sym (idle-is (fields_of c.args.w c.args.damaged.now) c.args.n c.args.t.now c.requires.most c.requires.counted) in
     let g = first_head (fields_of c.args.w c.args.damaged.now) c.args.n _ 0 c.args.n c.first_from-first.ensures in
     λ i. record {
-      edition = c.minus-edition.ensures i;
+      edition = c.saturating_sub-edition.ensures i;
       min_shift = 3;
       page_shift = 12;
       pages = c.args.n;

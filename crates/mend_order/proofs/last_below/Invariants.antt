@@ -6,6 +6,3 @@ use Rattle.mend_order.proofs.last_below.Given as goal
 
 abbrev pub invariant-loop-at : goal.invariant-loop-at
 invariant-loop-at l = last_below (belongs (fields_of l.w l.pool) l.n l.list) l.p ≡ last_below (belongs (fields_of l.w l.pool) l.n l.list) l.at
-
-abbrev pub decreases-loop-at : goal.decreases-loop-at
-decreases-loop-at l = l.at

@@ -1,30 +1,24 @@
-use mathlib.Core.Path.{refl}
-use native.Mathlib.Omega.{arith}
-use lib.ListN.{length-set}
-use lib.Dec.{eqb}
+use Rattle.std.proofs.Common.{◌≡◌, ℕ, refl, nat_eq, set, get_or, arith, length-set}
+use borrow.Author.Tests.{eq-eqb, ne_eqb}
 use Rattle.base.specs.Tests.{pick}
 use Rattle.plain.specs.Chunks.{unlisted}
 use Rattle.plain.proofs.Loops.{remade-next, remade-end}
 use Rattle.plain_chunks.proofs.unlist.Goals as goal
+use Rattle.plain_chunks.proofs.unlist.Goals.{then-x-p, else-x-p}
 
-pub loop-i-init : goal.loop-i-init
-loop-i-init c = (omega arith, omega arith, refl)
-
-pub bounds-table-i : goal.bounds-table-i
-bounds-table-i c = omega arith
-
-pub bounds-table-i-in-loop-i : goal.bounds-table-i-in-loop-i
-bounds-table-i-in-loop-i c = omega arith
-
-pub overflow_add-i : goal.overflow_add-i
-overflow_add-i c = omega arith
-
-pub loop-i-smaller : goal.loop-i-smaller
-loop-i-smaller c = omega arith
-
-pub loop-i-preserved : goal.loop-i-preserved
-loop-i-preserved c = let l = c.loop-i in let a = c.args in (omega arith, simp length-set l.invariant.1, remade-next (λ j x. pick (eqb x a.p) 255 x) l.table _ l.i 0 _ l.invariant.2 (omega arith) c.without.ensures)
+pub loop-x-preserved : goal.loop-x-preserved
+unfolding pick
+loop-x-preserved c =
+    let l = c.loop-x in
+    let y : ℕ = get_or l.x-items l.x-index 0 in
+    let e : c.if-x-p.x-items ≡ set l.x-items l.x-index (pick (nat_eq y c.args.p) 255 y) =
+    elim c.if-x-p.branch [
+      | then-x-p w ↦ rw (eq-eqb _ _ w.if-x-p.true) w.x-items-is
+      | else-x-p w ↦ rw (ne_eqb _ _ w.if-x-p.false) w.x-items-is
+    ]
+    in
+    rw e (simp length-set l.invariant.0, remade-next (λ j x. pick (nat_eq x c.args.p) 255 x) _ _ _ 0 _ l.invariant.1 (omega arith) refl)
 
 pub returns : goal.returns
 unfolding unlisted
-returns c = let l = c.loop-i in let a = c.args in remade-end (λ j x. pick (eqb x a.p) 255 x) l.table _ l.i l.invariant.2 (omega arith)
+returns c = remade-end (λ j x. pick (nat_eq x c.args.p) 255 x) _ _ _ c.loop-x.invariant.1 (omega arith)

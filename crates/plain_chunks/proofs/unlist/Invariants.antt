@@ -1,14 +1,7 @@
-use mathlib.Core.Path.{◌≡◌}
-use Prim.Native.Nat.{◌-◌, ◌≤◌}
-use lib.ListN.{length, drop, take}
-use mathlib.Core.List.{◌++◌}
-use lib.Dec.{eqb}
+use Rattle.std.proofs.Common.{◌≡◌, ◌++◌, length, take, drop, nat_eq}
 use Rattle.base.specs.Tests.{pick}
 use Rattle.plain.specs.Arrays.{remade}
 use Rattle.plain_chunks.proofs.unlist.Given as goal
 
-abbrev pub invariant-loop-i : goal.invariant-loop-i
-invariant-loop-i l = (l.i ≤ 12) × (length l.table ≡ 12) × (take l.i l.table ++ remade (λ j x. pick (eqb x l.p) 255 x) l.i (drop l.i l.table) ≡ remade (λ j x. pick (eqb x l.p) 255 x) 0 l.initial.table)
-
-abbrev pub decreases-loop-i : goal.decreases-loop-i
-decreases-loop-i l = 12 - l.i
+abbrev pub invariant-loop-x : goal.invariant-loop-x
+invariant-loop-x l = (length l.x-items ≡ 12) × (take l.x-index l.x-items ++ remade (λ j x. pick (nat_eq x l.p) 255 x) l.x-index (drop l.x-index l.x-items) ≡ remade (λ j x. pick (nat_eq x l.p) 255 x) 0 l.initial.x-items)

@@ -6,5 +6,5 @@ use Rattle.plain_decide.proofs.alloc.Goals as goal
 pub returns-then-chunks-lt6144 : goal.returns-then-chunks-lt6144
 returns-then-chunks-lt6144 c = let g = c.well_formed.0.1.1 in alloc_decides c.args.s c.args.ok c.args.e _ c.args.size c.refuse_as.result _ (tables-known c.args.s g.0.1.0.1 g.1.0.1.0.1 g.1.1.0.1.0.1) (tallied-known c.args.s _ g.1.1.0.1.1) (search picks) (search picks)
 
-pub returns : goal.returns
-returns c = let g = c.well_formed.0.1.1 in alloc_decides c.args.s c.args.ok c.args.e _ c.args.size c.alloc_judged.result _ (tables-known c.args.s g.0.1.0.1 g.1.0.1.0.1 g.1.1.0.1.0.1) (tallied-known c.args.s _ g.1.1.0.1.1) (search picks) (search picks)
+pub returns-else-chunks-lt6144 : goal.returns-else-chunks-lt6144
+returns-else-chunks-lt6144 c = let g = c.well_formed.0.1.1 in alloc_decides c.args.s c.args.ok c.args.e _ c.args.size c.alloc_judged.result _ (tables-known c.args.s g.0.1.0.1 g.1.0.1.0.1 g.1.1.0.1.0.1) (tallied-known c.args.s _ g.1.1.0.1.1) (search picks) (search picks)

@@ -11,5 +11,5 @@ alloc-d-requires c = entry-low _ _ _ _ _ (length-take-le 12 _ c.if-runs-lt12.fal
 
 pub returns : goal.returns
 returns c =
-    lent_alloc _ _ _ _ _ _ _ c.entry-e.result c.alloc-d.result _ _ _ c.if-runs-lt12.false c.wanted-k.ensures c.first_fit-i.ensures c.entry-e.ensures
-    (rw c.pages_of-pages.ensures at c.table_ok-ok.ensures) c.alloc-d.ensures (rw c.len_of-n.ensures at c.carve.ensures) c.answer_of.ensures
+    lent_alloc _ _ _ _ _ _ _ c.entry-e.result c.alloc-d.result _ _ _ c.if-runs-lt12.false c.wanted.ensures c.first_fit-i.ensures c.entry-e.ensures
+    (rw c.pages_of.ensures at c.table_ok-ok.ensures) c.alloc-d.ensures (rw c.len_of.ensures at c.carve.ensures) c.answer_of.ensures

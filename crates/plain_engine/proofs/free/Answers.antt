@@ -6,5 +6,5 @@ returns-then-runs-lt12 c = lent_few _ _ _ _ _ c.if-runs-lt12.true c.too_short.en
 
 pub returns : goal.returns
 returns c =
-    lent_free _ _ _ _ _ _ _ _ _ c.if-runs-lt12.false (rw c.pages_of-pages.ensures at c.table_ok-ok.ensures) c.free-d.ensures
-    (rw (c.first_of-p.ensures, c.len_of-k.ensures) at c.release.ensures) c.answer_of.ensures
+    lent_free _ _ _ _ _ _ _ _ _ c.if-runs-lt12.false (rw c.pages_of.ensures at c.table_ok-ok.ensures) c.free-d.ensures
+    (rw (c.first_of.ensures, c.len_of.ensures) at c.release.ensures) c.answer_of.ensures

@@ -5,4 +5,4 @@ use Rattle.plain_host.proofs.format.Goals as goal
 
 pub returns : goal.returns
 unfolding vacant
-returns c = c.format-kept.ensures fresh_runs refl
+returns c = c.format.ensures fresh_runs refl

@@ -1,14 +1,15 @@
-use Rattle.std.proofs.Common.{refl, arith}
-use Rattle.plain.specs.Table.{cleared}
-use Rattle.plain_lent.proofs.Front.{cleared-next, cleared-end}
+use Rattle.std.proofs.Common.{refl, arith, ap, ◌++◌, drop}
+use Rattle.plain.specs.Table.{vacant, apart, cleared}
+use Rattle.plain.proofs.Loops.{remade-next, remade-end}
 use Rattle.plain_lent.proofs.clear_touching.Goals as goal
 
-pub loop-i-init : goal.loop-i-init
+pub loop-e-init : goal.loop-e-init
 unfolding cleared
-loop-i-init c = record { front = refl; behind = refl }
+loop-e-init c = refl
 
-pub loop-i-preserved : goal.loop-i-preserved
-loop-i-preserved c = rw (c.put.ensures, c.set_apart-y.ensures, c.get-x.ensures) (cleared-next _ _ _ _ _ c.loop-i.invariant (omega arith) c.loop-i-test.true)
+pub loop-e-preserved : goal.loop-e-preserved
+unfolding vacant
+loop-e-preserved c = remade-next (λ j e. apart c.args.p c.args.q e) _ _ _ vacant _ c.loop-e.invariant (omega arith) c.set_apart.ensures
 
 pub returns : goal.returns
-returns c = cleared-end _ _ _ _ _ c.loop-i.invariant (omega arith) c.loop-i-test.false
+returns c = ap (λ t. t ++ drop 12 c.args.table.now) (remade-end (λ j e. apart c.args.p c.args.q e) _ _ _ c.loop-e.invariant (omega arith))

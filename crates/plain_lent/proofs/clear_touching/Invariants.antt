@@ -1,9 +1,7 @@
-use Rattle.std.proofs.Common.{◌-◌}
-use Rattle.plain_lent.proofs.Front.{Cleared}
+use Rattle.std.proofs.Common.{◌≡◌, ◌++◌, take, drop}
+use Rattle.plain.specs.Arrays.{remade}
+use Rattle.plain.specs.Table.{apart, cleared}
 use Rattle.plain_lent.proofs.clear_touching.Given as goal
 
-abbrev pub invariant-loop-i : goal.invariant-loop-i
-invariant-loop-i l = Cleared l.p l.q l.initial.table l.i l.table
-
-abbrev pub decreases-loop-i : goal.decreases-loop-i
-decreases-loop-i l = 12 - l.i
+abbrev pub invariant-loop-e : goal.invariant-loop-e
+invariant-loop-e l = take l.e-index l.e-items ++ remade (λ j e. apart l.p l.q e) l.e-index (drop l.e-index l.e-items) ≡ cleared l.p l.q l.initial.e-items

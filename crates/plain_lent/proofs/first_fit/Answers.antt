@@ -4,4 +4,4 @@ use Rattle.plain_lent.proofs.first_fit.Goals as goal
 
 pub returns : goal.returns
 unfolding first_fit passing
-returns c = rw (c.scan.ensures, c.holding-test.ensures)
+returns c = rw (c.scan.ensures, c.holding.ensures)

@@ -1,14 +1,15 @@
-use Rattle.std.proofs.Common.{◌∙◌, sym, ap, arith}
-use Rattle.plain.specs.Table.{is_vacant}
-use Rattle.plain_lent.proofs.Front.{pushed_here, pushed-next, pushed-end}
+use Rattle.std.proofs.Common.{◌∙◌, sym, arith, ap, ◌++◌, drop}
+use Rattle.plain.specs.Table.{vacant, is_vacant}
+use Rattle.plain.proofs.Loops.{push_here, push-next, push-end}
 use Rattle.plain_lent.proofs.push_front.Goals as goal
 
-pub loop-i-preserved : goal.loop-i-preserved
-loop-i-preserved c =
-    rw (c.put.ensures, c.get-x.ensures) (pushed-next _ _ _ _ _ c.loop-i.invariant (omega arith) c.loop-i-test.true (ap is_vacant (sym c.get-x.ensures) ∙ sym c.is_vacant.ensures ∙ c.if-is_vacant.false))
+pub loop-place-preserved : goal.loop-place-preserved
+unfolding vacant
+loop-place-preserved c = push-next is_vacant _ _ _ vacant _ c.loop-place.invariant (omega arith) (sym c.is_vacant.ensures ∙ c.if-is_vacant.false)
 
-pub returns-after-loop-i : goal.returns-after-loop-i
-returns-after-loop-i c = pushed-end _ _ _ _ _ c.loop-i.invariant (omega arith) c.loop-i-test.false
+pub returns-after-loop-place : goal.returns-after-loop-place
+returns-after-loop-place c = ap (λ t. t ++ drop 12 c.args.table.now) (push-end is_vacant _ _ _ _ c.loop-place.invariant (omega arith))
 
 pub returns-then-is_vacant : goal.returns-then-is_vacant
-returns-then-is_vacant c = c.put.ensures ∙ pushed_here _ _ _ _ _ c.loop-i.invariant (omega arith) c.loop-i-test.true (ap is_vacant (sym c.get-x.ensures) ∙ sym c.is_vacant.ensures ∙ c.if-is_vacant.true)
+unfolding vacant
+returns-then-is_vacant c = ap (λ t. t ++ drop 12 c.args.table.now) (push_here is_vacant _ _ _ vacant _ c.loop-place.invariant (omega arith) (sym c.is_vacant.ensures ∙ c.if-is_vacant.true))

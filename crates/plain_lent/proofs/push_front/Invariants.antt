@@ -1,9 +1,7 @@
-use Rattle.std.proofs.Common.{◌-◌}
-use Rattle.plain_lent.proofs.Front.{Pushed}
+use Rattle.std.proofs.Common.{◌≡◌, ◌++◌, take, drop}
+use Rattle.plain.specs.Arrays.{pushed}
+use Rattle.plain.specs.Table.{is_vacant}
 use Rattle.plain_lent.proofs.push_front.Given as goal
 
-abbrev pub invariant-loop-i : goal.invariant-loop-i
-invariant-loop-i l = Pushed l.fn.e l.initial.table l.i l.table l.carry
-
-abbrev pub decreases-loop-i : goal.decreases-loop-i
-decreases-loop-i l = 12 - l.i
+abbrev pub invariant-loop-place : goal.invariant-loop-place
+invariant-loop-place l = take l.place-index l.place-items ++ pushed is_vacant l.carry (drop l.place-index l.place-items) ≡ pushed is_vacant l.fn.e l.initial.place-items

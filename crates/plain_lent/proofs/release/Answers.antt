@@ -10,4 +10,4 @@ unfolding passing
 returns c =
     returned-whole _ _ _ c.clear_touching.new.table _ c.requires c.if-k-eq0.false
     (rw (← c.add-q.ensures) c.clear_touching.ensures)
-    (rw (← c.add-q.ensures) (rw (c.whole_run-e.ensures, c.len_of-l.ensures, c.len_of-r.ensures, c.ending_before-before.ensures, c.beginning_at-behind.ensures) at c.push_front.ensures))
+    (rw (← c.add-q.ensures) (rw (c.whole_run.ensures, c.len_of-l.ensures, c.len_of-r.ensures, c.ending_before.ensures, c.beginning_at.ensures) at c.push_front.ensures))

@@ -4,5 +4,5 @@ use Rattle.plain_script.proofs.serve.Goals as goal
 pub returns-then-input-le12288 : goal.returns-then-input-le12288
 returns-then-input-le12288 c = whole-short _ _ _ _ c.if-input-le12288.true (c.serve_fresh.ensures.answer, c.serve_fresh.ensures.slice)
 
-pub returns : goal.returns
-returns c = whole_long _ _ _ _ c.if-input-le12288.false c.put_refusal.ensures
+pub returns-else-input-le12288 : goal.returns-else-input-le12288
+returns-else-input-le12288 c = whole_long _ _ _ _ c.if-input-le12288.false c.put_refusal.ensures

@@ -1,4 +1,4 @@
-use mathlib.Core.Path.{◌≡◌, refl, ◌∙◌}
+use mathlib.Core.Path.{◌≡◌, ◌∙◌}
 use Prim.Native.Nat.{◌+◌}
 use native.Mathlib.Omega.{arith}
 use lib.ListN.{length}
@@ -9,19 +9,21 @@ use Rattle.printing.proofs.Writing.{decimal-begun, digit_more, digits-done}
 use Rattle.printing.proofs.put_decimal.Goals as goal
 
 pub loop-k-init : goal.loop-k-init
-loop-k-init c = let e = c.places_of-k.ensures in
-    (omega (arith, e, (places-few c.args.v).1), omega (arith, e), refl, decimal-begun _ _ _ _ e)
+loop-k-init c = let e = c.places_of-k.ensures in (omega (arith, e), decimal-begun _ _ _ _ e)
+
+pub digit-requires : goal.digit-requires
+digit-requires c = omega (arith, (places-few c.args.v).1, c.loop-k.invariant.0)
 
 pub overflow_add-at : goal.overflow_add-at
-overflow_add-at c = search (rules, (places-few c.args.v).1, c.loop-k.invariant.1)
+overflow_add-at c = search (rules, (places-few c.args.v).1, c.loop-k.invariant.0)
 
 pub loop-k-preserved : goal.loop-k-preserved
 loop-k-preserved c = let i = c.loop-k.invariant in
-    (search rules, omega (arith, i.1), search rules, digit_more _ _ _ _ _ _ (search rules) c.digit.ensures c.put_byte.ensures ∙ i.3)
+    (omega (arith, i.0), digit_more _ _ _ _ _ _ (search rules) c.digit.ensures c.put_byte.ensures ∙ i.1)
 
 pub returns : goal.returns
 returns c = let i = c.loop-k.invariant in
     let a = c.args in
     let z : c.loop-k.k ≡ 0 = omega arith in
-    let e : c.loop-k.at ≡ a.n + length (decimal a.v) = omega (arith, z, i.1, length-decimal a.v) in
-    (e, digits-done _ _ _ _ _ z i.3, omega (arith, e, length-decimal a.v, (places-few a.v).1))
+    let e : c.loop-k.at ≡ a.n + length (decimal a.v) = omega (arith, z, i.0, length-decimal a.v) in
+    (e, digits-done _ _ _ _ _ z i.1, omega (arith, e, length-decimal a.v, (places-few a.v).1))

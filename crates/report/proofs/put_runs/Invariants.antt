@@ -1,6 +1,3 @@
-use mathlib.Core.Path.{◌≡◌}
-use Prim.Native.Nat.{◌-◌, ◌≤◌}
-use lib.ListN.{length}
 use Rattle.model.specs.View.{shown}
 use Rattle.rules.specs.Bytes.{read}
 use Rattle.printing.specs.Text.{lines_of, Prints}
@@ -9,7 +6,4 @@ use Rattle.report.specs.Report.{spans_below}
 use Rattle.report.proofs.put_runs.Given as goal
 
 abbrev pub invariant-loop-p : goal.invariant-loop-p
-invariant-loop-p l = (l.p ≤ l.pages) × (length l.out ≡ length l.initial.out) × Prints l.initial.out l.out l.n l.next (lines_of span_line (spans_below (shown (read 2 l.image)) l.p))
-
-abbrev pub decreases-loop-p : goal.decreases-loop-p
-decreases-loop-p l = l.pages - l.p
+invariant-loop-p l = Prints l.initial.out l.out l.n l.next (lines_of span_line (spans_below (shown (read 2 l.image)) l.p))

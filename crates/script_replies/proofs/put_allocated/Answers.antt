@@ -5,10 +5,10 @@ use Rattle.script_replies.specs.Replies.{at_word, alloc_line}
 use Rattle.script_replies.proofs.Spoken.{prints_granted, prints_refused}
 use Rattle.script_replies.proofs.put_allocated.Goals as goal
 
-pub returns-in-At : goal.returns-in-At
+pub returns-in-Ok : goal.returns-in-Ok
 unfolding alloc_line
-returns-in-At c = prints_granted _ _ _ _ at_word _ _ (ap of_alloc c.in-At.is) c.put_line.ensures
+returns-in-Ok c = prints_granted _ _ _ _ at_word _ _ (ap of_alloc c.in-Ok.is) c.put_line.ensures
 
-pub returns-in-Refused : goal.returns-in-Refused
+pub returns-in-Err : goal.returns-in-Err
 unfolding alloc_line
-returns-in-Refused c = prints_refused _ _ _ _ at_word _ _ (ap of_alloc c.in-Refused.is) c.put_refusal.ensures
+returns-in-Err c = prints_refused _ _ _ _ at_word _ _ (ap of_alloc c.in-Err.is) c.put_refusal.ensures

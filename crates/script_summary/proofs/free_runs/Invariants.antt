@@ -1,9 +1,5 @@
-use Prim.Native.Nat.{◌-◌, ◌≤◌}
 use Rattle.script_summary.proofs.Counting.{Seen}
 use Rattle.script_summary.proofs.free_runs.Given as goal
 
 abbrev pub invariant-loop-p : goal.invariant-loop-p
-invariant-loop-p l = (l.p ≤ l.n) × Seen l.w l.pool l.n l.p l.runs
-
-abbrev pub decreases-loop-p : goal.decreases-loop-p
-decreases-loop-p l = l.n - l.p
+invariant-loop-p l = Seen l.w l.pool l.n l.p l.runs

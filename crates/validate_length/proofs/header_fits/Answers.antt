@@ -14,4 +14,4 @@ last-first false (false ∷ ts) = refl
 
 pub returns : goal.returns
 unfolding rule1
-returns c = rw (c.minus-edition.ensures, c.get_header-h.ensures, c.requires) at (c.all6.ensures ∙ last-first _ _)
+returns c = rw (c.saturating_sub-edition.ensures, c.get_header-h.ensures, c.requires) at (c.all.ensures ∙ last-first _ _)

@@ -1,13 +1,9 @@
 use mathlib.Core.Path.{◌≡◌}
 use mathlib.Core.Bool.{true}
-use Prim.Native.Nat.{◌-◌, ◌≤◌}
 use Rattle.base.specs.Tests.{all_below}
 use Rattle.rules.specs.Rules.{class_list}
 use Rattle.rules.specs.Bytes.{fields_of}
 use Rattle.validate_lists.proofs.class_lists.Given as goal
 
 abbrev pub invariant-loop-c : goal.invariant-loop-c
-invariant-loop-c l = (l.c ≤ 9) × (all_below (class_list (fields_of l.w l.pool) l.n) l.c ≡ true)
-
-abbrev pub decreases-loop-c : goal.decreases-loop-c
-decreases-loop-c l = 9 - l.c
+invariant-loop-c l = all_below (class_list (fields_of l.w l.pool) l.n) l.c ≡ true

@@ -4,4 +4,4 @@ use Rattle.validate_pages.proofs.add_at.Goals as goal
 
 pub returns : goal.returns
 unfolding add_at
-returns c = rw c.wrapping_add_u64.ensures.value refl
+returns c = refl

@@ -1,5 +1,4 @@
 use Rattle.validate_pages.specs.Mirror.{class_fault}
-use Rattle.std.proofs.Common.{rules}
 use Rattle.validate_pages.proofs.class_fault.Goals as goal
 
 pub returns : goal.returns

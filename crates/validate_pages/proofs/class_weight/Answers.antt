@@ -1,5 +1,4 @@
 use Rattle.validate_pages.specs.Mirror.{class_weight}
-use Rattle.std.proofs.Common.{rules}
 use Rattle.validate_pages.proofs.class_weight.Goals as goal
 
 pub returns : goal.returns

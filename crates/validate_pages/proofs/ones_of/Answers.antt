@@ -1,4 +1,4 @@
-use Rattle.std.proofs.Common.{arith, rules}
+use Rattle.std.proofs.Common.{arith}
 use Rattle.validate_slabs.proofs.Top.{map-inside}
 use Rattle.validate_pages.proofs.Steps.{ones_read, ones_recorded}
 use Rattle.validate_pages.proofs.ones_of.Goals as goal

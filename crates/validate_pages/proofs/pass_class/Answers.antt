@@ -1,4 +1,4 @@
-use Rattle.std.proofs.Common.{arith, rules}
+use Rattle.std.proofs.Common.{arith}
 use Rattle.validate_pages.proofs.Runs.{class_in, class-stays, class_steps}
 use Rattle.validate_pages.proofs.pass_class.Goals as goal
 

@@ -1,5 +1,4 @@
 use Rattle.validate_pages.proofs.Runs.{free_stays, free_steps}
-use Rattle.std.proofs.Common.{rules}
 use Rattle.validate_pages.proofs.pass_free.Goals as goal
 
 pub returns-then-not-free_whole : goal.returns-then-not-free_whole

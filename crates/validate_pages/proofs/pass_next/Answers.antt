@@ -1,5 +1,4 @@
 use Rattle.validate_pages.proofs.Runs.{stays-spare, here}
-use Rattle.std.proofs.Common.{rules}
 use Rattle.validate_pages.proofs.pass_next.Goals as goal
 
 pub returns-then-v-ne0 : goal.returns-then-v-ne0

@@ -1,5 +1,4 @@
 use Rattle.validate_pages.proofs.Runs.{taken-stays, taken_steps}
-use Rattle.std.proofs.Common.{rules}
 use Rattle.validate_pages.proofs.pass_taken.Goals as goal
 
 pub returns-then-not-taken_whole : goal.returns-then-not-taken_whole

@@ -1,5 +1,4 @@
 use Rattle.validate_pages.specs.Mirror.{strays}
-use Rattle.std.proofs.Common.{rules}
 use Rattle.validate_pages.proofs.strays_of.Goals as goal
 
 pub returns : goal.returns

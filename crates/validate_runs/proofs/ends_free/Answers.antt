@@ -3,7 +3,6 @@ use mathlib.Core.Path.{ap}
 use Prim.Native.Nat.{ℕ}
 use lib.Dec.{ltb}
 use Rattle.base.proofs.Tests.{pick_lt, picks}
-use borrow.Author.Rules.{rules}
 use Rattle.validate_runs.proofs.ends_free.Goals as goal
 
 pub returns-then-x-n : goal.returns-then-x-n

@@ -4,7 +4,6 @@ use mathlib.Core.Bool.{not}
 use Prim.Native.Nat.{ℕ}
 use lib.Dec.{eqb}
 use Rattle.base.proofs.Tests.{pick_lt, picks}
-use borrow.Author.Rules.{rules}
 use Rattle.validate_runs.proofs.ends_taken.Goals as goal
 
 pub returns-then-x-n : goal.returns-then-x-n

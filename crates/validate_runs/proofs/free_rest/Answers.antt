@@ -1,6 +1,5 @@
 use Rattle.validate_runs.specs.Mirror.{free_rest}
 use Rattle.base.proofs.Tests.{picks}
-use borrow.Author.Rules.{rules}
 use Rattle.validate_runs.proofs.free_rest.Goals as goal
 
 pub returns-then-ends_free : goal.returns-then-ends_free

@@ -1,6 +1,5 @@
 use Rattle.validate_runs.specs.Mirror.{last_plain}
 use Rattle.base.proofs.Tests.{picks}
-use borrow.Author.Rules.{rules}
 use Rattle.validate_runs.proofs.last_plain.Goals as goal
 
 pub returns-then-k-gt1 : goal.returns-then-k-gt1

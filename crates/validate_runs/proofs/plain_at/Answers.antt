@@ -1,6 +1,5 @@
 use Rattle.rules.specs.Bytes.{fields_of, image_of}
 use Rattle.validate_runs.specs.Mirror.{plain_at}
-use borrow.Author.Rules.{rules}
 use Rattle.validate_runs.proofs.plain_at.Goals as goal
 
 pub returns : goal.returns

@@ -1,6 +1,5 @@
 use Rattle.validate_runs.specs.Mirror.{taken_rest}
 use Rattle.base.proofs.Tests.{picks}
-use borrow.Author.Rules.{rules}
 use Rattle.validate_runs.proofs.taken_rest.Goals as goal
 
 pub returns-then-ends_taken : goal.returns-then-ends_taken

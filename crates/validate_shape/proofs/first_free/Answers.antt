@@ -1,5 +1,4 @@
 use Rattle.rules.specs.Rules.{first_free, free_run}
-use borrow.Author.Rules.{rules}
 use Rattle.validate_shape.proofs.first_free.Goals as goal
 
 pub returns : goal.returns

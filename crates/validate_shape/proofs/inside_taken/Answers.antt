@@ -1,5 +1,4 @@
 use Rattle.rules.specs.Rules.{inside_taken}
-use borrow.Author.Rules.{rules}
 use Rattle.validate_shape.proofs.inside_taken.Goals as goal
 
 pub returns : goal.returns

@@ -1,4 +1,3 @@
-use borrow.Author.Rules.{rules}
 use Rattle.validate_shape.proofs.kind_is.Goals as goal
 
 pub returns : goal.returns

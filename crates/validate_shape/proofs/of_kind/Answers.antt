@@ -1,5 +1,4 @@
 use Rattle.validate_shape.proofs.Arms.{kinds}
-use borrow.Author.Rules.{rules}
 use Rattle.validate_shape.proofs.of_kind.Goals as goal
 
 pub returns-in-0 : goal.returns-in-0

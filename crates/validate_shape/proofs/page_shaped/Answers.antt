@@ -1,5 +1,4 @@
 use Rattle.rules.specs.Rules.{shape_at}
-use borrow.Author.Rules.{rules}
 use Rattle.validate_shape.proofs.page_shaped.Goals as goal
 
 pub returns : goal.returns

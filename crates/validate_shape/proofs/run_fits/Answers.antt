@@ -1,6 +1,5 @@
 use native.Mathlib.Omega.{arith}
 use Rattle.validate_shape.proofs.Arms.{walked, too_long, walk_fits}
-use borrow.Author.Rules.{rules}
 use Rattle.validate_shape.proofs.run_fits.Goals as goal
 
 pub returns-then-not-both : goal.returns-then-not-both

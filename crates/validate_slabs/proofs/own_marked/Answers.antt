@@ -1,6 +1,5 @@
 use native.Mathlib.Omega.{arith}
 use Rattle.validate_slabs.proofs.Top.{own_read, map-inside}
-use borrow.Author.Rules.{rules}
 use Rattle.validate_slabs.proofs.own_marked.Goals as goal
 
 pub get_word_in-requires : goal.get_word_in-requires

@@ -1,5 +1,4 @@
 use Rattle.validate_slabs.proofs.Arms.{recorded}
-use borrow.Author.Rules.{rules}
 use Rattle.validate_slabs.proofs.recorded_fits.Goals as goal
 
 pub returns : goal.returns

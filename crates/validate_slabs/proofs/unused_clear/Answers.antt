@@ -2,7 +2,6 @@ use native.Mathlib.Omega.{arith}
 use Rattle.model.proofs.Classes.{large-chunks}
 use Rattle.classes.proofs.Numbers.{chunks-some}
 use Rattle.validate_slabs.proofs.Arms.{unit_some, unused}
-use borrow.Author.Rules.{rules}
 use Rattle.validate_slabs.proofs.unused_clear.Goals as goal
 
 pub overflow_sub-result : goal.overflow_sub-result

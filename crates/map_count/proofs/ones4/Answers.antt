@@ -1,8 +1,0 @@
-use Rattle.map_count.proofs.Counts.{read_twice}
-use borrow.Author.Rules.{rules}
-use Rattle.map_count.proofs.ones4.Goals as goal
-
-pub returns : goal.returns
-returns c =
-    let all = read_twice _ _ 2 _ _ c.ones2.ensures.answer c.ones2-2.ensures.answer in
-    record { answer = all.0; bound = all.1 }

@@ -1,8 +1,0 @@
-use Rattle.base.proofs.Tests.{picks}
-use Rattle.mend.proofs.larger_of.Goals as goal
-
-pub returns-then-a-b : goal.returns-then-a-b
-returns-then-a-b c = search picks
-
-pub returns-else-a-b : goal.returns-else-a-b
-returns-else-a-b c = search picks

@@ -1,4 +1,0 @@
-use Rattle.plain_alloc.proofs.alloc_large.Goals as goal
-
-pub returns : goal.returns
-returns c = cc

@@ -1,1 +1,0 @@
-pub mod Passing  -- a test by its kind
