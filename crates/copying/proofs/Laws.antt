@@ -1,13 +1,13 @@
--- Which bytes are laid, and which stay; and what a copy lays.
-use mathlib.Core.Path.{◌≡◌, refl, sym, ap, ◌∙◌}
+-- Which bytes are laid, and which stay; and the steps of the loop.
+use mathlib.Core.Path.{◌≡◌, refl, ◌∙◌}
 use mathlib.Core.Logic.{◌⊎◌, inl, inr, ◌≢◌}
-use mathlib.Core.List.{List, ◌++◌}
+use mathlib.Core.List.{List}
 use Prim.Native.Nat.{ℕ, zero, suc, ◌+◌, ◌-◌, ◌≤◌, ◌<◌}
+use native.Mathlib.Numerals.{add-one}
 use native.Mathlib.Omega.{arith}
-use lib.ListN.{length, get_or, set, take, drop, length-set, length-take, length-drop}
-use lib.Seq.{get_or-set_same, get_or-set_other, get_or-drop, take-take, paste, paste-zero, paste-suc}
-use borrow.Rule.Slice.PartMut.{put_mid}
-use Rattle.std.proofs.lemmas.Slice.{put_mid-paste}
+use lib.ListN.{length, get_or, set, length-set}
+use lib.Seq.{get_or-set_same, get_or-set_other}
+use borrow.Author.Rules.{rules}
 use Rattle.base.proofs.Cases.{eq?, Out, in?}
 use Rattle.words.specs.Word.{Bytes}
 use Rattle.copying.specs.Lay.{lay}
@@ -49,18 +49,17 @@ module _ (to from : ℕ) (s : List ℕ) where
           rw (← e) (rw (lay-inside n t (i - to) (omega arith) room) (B (from + (i - to))))
       go (inr o) = rw (lay-outside n t i o) (C i)
 
--- what a copy into the n bytes from `to` on leaves
-pub lay_paste : (to from n : ℕ) (s t : List ℕ) → to + n ≤ length t → from + n ≤ length s → paste t to (drop from s) n ≡ lay to from s n t
-unfolding lay
-lay_paste to from zero s t a b = sym (paste-zero t to (drop from s))
-lay_paste to from (suc n) s t a b =
-    let c : n < length (drop from s) = simp length-drop (omega arith) in
-    sym (paste-suc t to (drop from s) n 0 (omega arith) c) ∙ rw (lay_paste to from n s t (omega arith) (omega arith), get_or-drop from s n 0)
+-- ---- the loop
 
-pub lay_put : (to from n : ℕ) (s t u : List ℕ) → to + n ≤ length t → from + n ≤ length s → u ≡ take (from + n - from) (drop from s) → put_mid to (to + n - to) t u ≡ lay to from s n t
-lay_put to from n s t u a b f =
-    let d : to + n - to ≡ n = omega arith in
-    let e : from + n - from ≡ n = omega arith in
-    let c : n ≡ length (take n (drop from s)) = simp (length-take, length-drop) (omega arith) in
-    put_mid-paste to (to + n - to) t u (take n (drop from s)) n (f ∙ ap (λ (j : ℕ). take j (drop from s)) e) (sym d) c
-    ∙ ap (λ (l : List ℕ). take to t ++ l ++ drop (to + n) t) (take-take n n (drop from s) (omega arith)) ∙ lay_paste to from n s t a b
+pub lay-none : (to from : ℕ) (s t : List ℕ) → t ≡ lay to from s 0 t
+unfolding lay
+lay-none to from s t = refl
+
+pub lay_one : (to from i : ℕ) (s t u v : List ℕ) → u ≡ lay to from s i t → v ≡ set u (to + i) (get_or s (from + i) 0) → v ≡ lay to from s (i + 1) t
+unfolding lay
+lay_one to from i s t u v e f = rw (add-one i) (f ∙ rw e)
+
+pub lay-all : (to from i n : ℕ) (s t u : List ℕ) → u ≡ lay to from s i t → i ≤ n → n ≤ i → u ≡ lay to from s n t
+lay-all to from i n s t u e a b = let d : i ≡ n = omega arith in rw (← d) e
+
+pub ruleset lays = (lay-none, lay_one, lay-all, rules)

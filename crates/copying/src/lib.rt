@@ -9,5 +9,7 @@ pub fn copy(target: &mut [u8], to: usize, source: &[u8], from: usize, n: usize)
     requires { (to + n ≤ length target.old) × (from + n ≤ length source.now) }
     ensures { target.new ≡ lay to from source.now n target.old }
 {
-    target[to..to + n].copy_from_slice(&source[from..from + n]);
+    for i in 0..n {
+        target[to + i] = source[from + i];
+    }
 }

@@ -19,7 +19,9 @@ pub fn write_new_map(map: &mut [u8], k: u16)
     ensures { map.new ≡ new_map (length map.old) k }
 {
     words::put64(map, 0, top_word(k));
-    map[8..].fill(0);
+    for j in 8..map.len() {
+        map[j] = 0;
+    }
 }
 
 // Lends the new page's map on to the function that writes it; one that does not lie inside the pool is not written.

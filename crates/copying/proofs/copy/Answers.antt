@@ -1,6 +1,8 @@
-use native.Mathlib.Omega.{arith}
-use Rattle.copying.proofs.Laws.{lay_put}
+use Rattle.copying.proofs.Laws.{lays}
 use Rattle.copying.proofs.copy.Goals as goal
 
-pub returns : goal.returns
-returns c = let a = c.args in lay_put a.to a.from a.n _ _ _ (omega arith) (omega arith) c.copy_from_slice.ensures.after
+pub loop-i-init : goal.loop-i-init
+loop-i-init c = search lays
+
+pub loop-i-preserved : goal.loop-i-preserved
+loop-i-preserved c = search lays
