@@ -18,12 +18,12 @@ pub fn implies(a: bool, b: bool) -> bool
     if a { b } else { true }
 }
 
-// All of them are looked at.
-pub fn all<const N: usize>(tests: [bool; N]) -> bool
-    ensures { result ≡ all_of tests.entry }
+// All of them are looked at. They are lent: an array by value is packed into one integer and taken apart again.
+pub fn all<const N: usize>(tests: &[bool; N]) -> bool
+    ensures { result ≡ all_of tests.now }
 {
     let mut holds = true;
-    for t in &tests {
+    for t in tests {
         holds = both(*t, holds);
     }
     holds

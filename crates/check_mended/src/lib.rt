@@ -41,7 +41,7 @@ fn choose(t: bool, a: bool, b: bool) -> bool
 fn same_record(l: Links, k: Links, map: u64, other: u64) -> bool
     ensures { result ≡ same_record l k map other }
 {
-    let same = branchless::all([
+    let same = branchless::all(&[
         l.kind == k.kind,
         l.class == k.class,
         l.run == k.run,

@@ -30,12 +30,13 @@ pub fn entry(pages: [PageEntry; 12], p: usize) -> PageEntry
     }
 }
 
-// Whether page p is one of the pages and free.
+// Whether page p is one of the pages and free. The entry is read whole: where its kind is read in place, each copy of the pages is made in
+// two pieces an entry.
 #[tactic(auto, unfolding(plain_rules::specs::Counts::free_page, plain::specs::Plain::free_entry, base::specs::Tests::pick))]
 pub fn is_free(pages: [PageEntry; 12], p: usize) -> bool
     ensures { result ≡ free_page pages p }
 {
-    p < 12 && pages[p].kind == 0
+    p < 12 && entry(pages, p).kind == 0
 }
 
 #[tactic(auto, unfolding(plain_rules::specs::Counts::of_class, base::specs::Tests::pick))]

@@ -63,7 +63,7 @@ fn pages_ok(pages: [PageEntry; 12], ready: [u8; 12], bytes: &[u8]) -> bool
 pub fn is_sound(s: Kept, bytes: &[u8]) -> bool
     ensures { result ≡ kept_sound s bytes.now }
 {
-    all([
+    all(&[
         pages_ok(s.pages, s.ready, bytes),
         s.free == plain_counts::count_free(s.pages),
         classes_ok(s.pages, bytes, s.counts),

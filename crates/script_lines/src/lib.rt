@@ -37,7 +37,7 @@ fn byte_is(s: &[u8], at: usize, want: u8) -> bool
 fn starts_with(line: &[u8], a: u8, b: u8, c: u8, d: u8) -> bool
     ensures { result ≡ begins line.now a b c d }
 {
-    all([
+    all(&[
         byte_is(line, 0, a),
         byte_is(line, 1, b),
         byte_is(line, 2, c),

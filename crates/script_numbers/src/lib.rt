@@ -65,7 +65,7 @@ fn in_range(s: &[u8]) -> bool
 pub fn is_number(s: &[u8]) -> bool
     ensures { result ≡ is_number s.now }
 {
-    all([0 < s.len(), all_digits(s), zero_alone(s), in_range(s)])
+    all(&[0 < s.len(), all_digits(s), zero_alone(s), in_range(s)])
 }
 
 pub fn number(s: &[u8]) -> u32

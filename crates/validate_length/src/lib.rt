@@ -23,7 +23,7 @@ pub fn header_fits(pool: &[u8], w: u8, n: usize) -> bool
     let least = HEADER + CLASS_WORD * w as usize + PAGE_AND_RECORD;
     let len = pool.len();
     // The page count is compared first: past it the compiler knows page numbers to be small.
-    branchless::all([
+    branchless::all(&[
         h.pages as usize == n,
         least <= len,
         n <= MOST_PAGES,

@@ -47,7 +47,7 @@ fn begins_run(pool: &[u8], w: u8, n: usize, p: PageNumber, v: u64) -> bool
     let l = record_page::unpack_links(v);
     let k = l.run as usize;
     let map = validate_fields::map_of(pool, w, p);
-    branchless::all([l.class == 0, map == 0, 0 < k, p.0 as usize + k <= n])
+    branchless::all(&[l.class == 0, map == 0, 0 < k, p.0 as usize + k <= n])
 }
 
 // Whether no free page stands at x.
@@ -141,7 +141,7 @@ pub fn taken_whole(pool: &[u8], w: u8, n: usize, p: PageNumber, v: u64) -> bool
 {
     let l = record_page::unpack_links(v);
     let begins = begins_run(pool, w, n, p, v);
-    if branchless::all([begins, l.next.0 == NO_PAGE, l.prev.0 == NO_PAGE]) {
+    if branchless::all(&[begins, l.next.0 == NO_PAGE, l.prev.0 == NO_PAGE]) {
         taken_rest(pool, w, n, p, l.run as usize)
     } else {
         false

@@ -59,7 +59,7 @@ fn inside_free(pool: &[u8], w: u8, p: PageNumber) -> bool
     let l = validate_fields::links_of(pool, w, p);
     let map = validate_fields::map_of(pool, w, p);
     let before = kind_before(pool, w, p);
-    branchless::all([
+    branchless::all(&[
         l.class == 0,
         l.run == 0,
         map == 0,
@@ -78,7 +78,7 @@ fn first_free(pool: &[u8], w: u8, n: usize, p: PageNumber) -> bool
     let at = p.0 as usize;
     let fits = run_fits(pool, w, n, at, k, INSIDE_FREE);
     let ends = validate_runs::ends_free(pool, w, n, at + k);
-    branchless::all([l.class == 0, map == 0, fits, ends])
+    branchless::all(&[l.class == 0, map == 0, fits, ends])
 }
 
 fn first_taken(pool: &[u8], w: u8, n: usize, p: PageNumber) -> bool
@@ -91,7 +91,7 @@ fn first_taken(pool: &[u8], w: u8, n: usize, p: PageNumber) -> bool
     let at = p.0 as usize;
     let fits = run_fits(pool, w, n, at, k, INSIDE_TAKEN);
     let ends = validate_runs::ends_taken(pool, w, n, at + k);
-    branchless::all([l.class == 0, map == 0, fits, ends])
+    branchless::all(&[l.class == 0, map == 0, fits, ends])
 }
 
 fn inside_taken(pool: &[u8], w: u8, p: PageNumber) -> bool
@@ -100,7 +100,7 @@ fn inside_taken(pool: &[u8], w: u8, p: PageNumber) -> bool
     let l = validate_fields::links_of(pool, w, p);
     let map = validate_fields::map_of(pool, w, p);
     let before = kind_before(pool, w, p);
-    branchless::all([
+    branchless::all(&[
         l.class == 0,
         l.run == 0,
         map == 0,

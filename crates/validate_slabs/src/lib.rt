@@ -65,5 +65,5 @@ pub fn class_page(pool: &[u8], w: u8, n: usize, p: PageNumber) -> bool
     let l = validate_fields::links_of(pool, w, p);
     let c = l.class;
     let holds = map_holds(pool, w, n, p, c);
-    branchless::all([c <= 8, l.run == 0, holds])
+    branchless::all(&[c <= 8, l.run == 0, holds])
 }

@@ -22,6 +22,6 @@ loop-t-init g c = refl
 pub loop-t-preserved : goal.loop-t-preserved
 loop-t-preserved g c =
     let i = c.loop-t.t-index in
-    let bs = c.args.tests in
+    let bs = c.args.tests.now in
     let e : take (i + 1) bs ≡ take i bs ++ get_or bs i false ∷ [] = take_more bs i false (omega arith) in
     rw (e, all_of_more (take i bs) (get_or bs i false), ← c.loop-t.invariant) c.both-holds.ensures

@@ -4,4 +4,4 @@ use Rattle.base.specs.Tests.{all_of}
 use Rattle.branchless.proofs.all.Given as goal
 
 abbrev pub invariant-loop-t : goal.invariant-loop-t
-invariant-loop-t g l = l.holds ≡ all_of (take l.t-index l.t-items)
+invariant-loop-t g l = l.holds ≡ all_of (take l.t-index l.tests)
