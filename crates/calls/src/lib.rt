@@ -37,7 +37,7 @@ pub fn alloc(pool: &mut [u8], w: u8, size: u32) -> Result<Offset, Refusal>
     ensures answer { of_alloc result ≡ answered w pool.old (Alloc size) }
     ensures slice { pool.new ≡ after w pool.old (Alloc size) }
 {
-    let pages = sound_pages(pool, w)?;
+    let pages = sound_pages(pool, w)?; // 3 comes before 10 and 4
     serve::alloc_sound(pool, w, pages, size)
 }
 
@@ -47,6 +47,6 @@ pub fn free(pool: &mut [u8], w: u8, at: Offset) -> Result<u32, Refusal>
     ensures answer { of_free result ≡ answered w pool.old (Free at.0) }
     ensures slice { pool.new ≡ after w pool.old (Free at.0) }
 {
-    let pages = sound_pages(pool, w)?;
+    let pages = sound_pages(pool, w)?; // 3 comes before 5, 6 and 7
     serve::free_sound(pool, w, pages, at)
 }
