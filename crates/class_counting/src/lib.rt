@@ -101,6 +101,7 @@ fn used_in(counts: u64) -> u32
 }
 
 // The counts rise by `more`, asks and failures by one where they are to, and the peak follows used.
+#[tactic(auto, using(crate::proofs::Peak::max_pick), unfolding(crate::specs::Mirror::raised_by, crate::specs::Mirror::counts_more))]
 fn tally_raised(t: Tally, more: u64, asks: bool, fails: bool) -> Tally
     ensures { result ≡ raised_by more asks fails t }
 {

@@ -146,6 +146,10 @@ module _ (w : ℕ) (s d : List ℕ) (key : ℕ) where
     unfolding find_left slot_in slot
     find_held h = pick_yes _ _ _ e ∙ pick_yes _ _ _ (lt-ltb _ _ h)
 
+-- a find of a key that is not held, in a directory that is sound
+pub find_unheld : (w : ℕ) (s d : List ℕ) (key pages : ℕ) → Ready w s d pages → length d ≤ slot_in d key → (find_left w s d key).outcome ≡ refused NotHeld
+find_unheld w s d key pages R h = ap (λ (l : Left). l.outcome) (find_none w s d key (ready-both w s d R) h)
+
 -- what is looked up
 module _ (d : List ℕ) (key : ℕ) where
   pub looked_none : length d ≤ slot_in d key → refused NotHeld ≡ looked_up d key

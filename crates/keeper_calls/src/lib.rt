@@ -96,6 +96,7 @@ fn both_sound(pool: &[u8], w: u8, directory: &[u64]) -> Result<u16, Refusal>
 }
 
 // Where the record of the key lies, or the refusal.
+#[tactic(auto, using(crate::proofs::Served::find_unheld))]
 pub fn find(pool: &[u8], w: u8, directory: &[u64], key: u16) -> Result<RecordAt, Refusal>
     requires { 2 ≤ w }
     ensures { of_find result ≡ (find_left w pool.now directory.now key).outcome }
