@@ -32,7 +32,7 @@ pub fn sound_pages(pool: &[u8], w: u8) -> Result<u16, Refusal>
 }
 
 // Takes a block of at least `size` bytes: its offset, or the refusal.
-#[tactic(auto, using(crate::proofs::Refused::unsound_alloc, crate::proofs::Refused::alloc_stays))]
+#[tactic(auto, using(crate::proofs::Refused::unsound_refused, crate::proofs::Refused::unsound_stays))]
 pub fn alloc(pool: &mut [u8], w: u8, size: u32) -> Result<Offset, Refusal>
     requires { 2 ≤ w }
     ensures answer { of_alloc result ≡ answered w pool.old (Alloc size) }
@@ -43,7 +43,7 @@ pub fn alloc(pool: &mut [u8], w: u8, size: u32) -> Result<Offset, Refusal>
 }
 
 // Gives back the block that starts at the offset: the bytes released, or the refusal.
-#[tactic(auto, using(crate::proofs::Refused::unsound_free, crate::proofs::Refused::free_stays))]
+#[tactic(auto, using(crate::proofs::Refused::unsound_refused, crate::proofs::Refused::unsound_stays))]
 pub fn free(pool: &mut [u8], w: u8, at: Offset) -> Result<u32, Refusal>
     requires { 2 ≤ w }
     ensures answer { of_free result ≡ answered w pool.old (Free at.0) }
